@@ -49,17 +49,17 @@
 /* The version of this header. The number is for comparisons: 10,000 per major version, and 100 per
  * minor version. */
 #define SFLIGHT_VERSION_MAJOR 0
-#define SFLIGHT_VERSION_MINOR 1
+#define SFLIGHT_VERSION_MINOR 2
 #define SFLIGHT_VERSION_PATCH 0
 #define SFLIGHT_VERSION_NUMBER \
     (SFLIGHT_VERSION_MAJOR * 10000 + SFLIGHT_VERSION_MINOR * 100 + SFLIGHT_VERSION_PATCH)
-#define SFLIGHT_VERSION "0.1.0"
+#define SFLIGHT_VERSION "0.2.0"
 
 /* A program opens a group by this name, which the libraries of another minor version lack: they do
  * not link. By the name without a version, for programs that look names up as they run, sflight_open
  * is in every library. SFLIGHT_ANY_VERSION, defined before this header, lets it be that one here. */
 #ifndef SFLIGHT_ANY_VERSION
-#define sflight_open sflight_open_of_version_0_1
+#define sflight_open sflight_open_of_version_0_2
 #endif
 
 #ifdef __cplusplus

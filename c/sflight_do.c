@@ -26,7 +26,6 @@
 #endif
 
 enum {
-    NEAR = 8,         /* a thread keeps seats of so many pools */
     TRIES = 64,       /* of an asking or a Forget in the library */
     CROWD = 1000000,  /* nanoseconds until one asks again that found a crowd, or the largest group full */
     FEW_CELLS = 64,
@@ -39,10 +38,7 @@ const char *sflight_version(void) { return SFLIGHT_VERSION; }
 
 enum { FREE, TAKEN, CLOSED };
 
-static _Thread_local struct near {
-    uint64_t pool; /* its number, from 1 on */
-    struct seat *seat;
-} near[NEAR];
+_Thread_local struct near sflight_inside_near[NEAR];
 
 static pthread_key_t exits;
 static bool is_exit_made;
@@ -76,7 +72,7 @@ static struct seat *arrive(sflight_pool *pool, struct near *at) {
     for (int state = FREE; seat; seat = seat->next, state = FREE) {
         if (atomic_compare_exchange_strong(&seat->state, &state, TAKEN)) break;
     }
-    if (!seat && (seat = aligned_alloc(64, sizeof *seat))) {
+    if (!seat && (seat = aligned_alloc(CACHE_LINE, sizeof *seat))) {
         memset(seat, 0, sizeof *seat);
         if (sflight_split(&pool->root.handle, &seat->handle) == SFLIGHT_DONE) {
             atomic_init(&seat->state, TAKEN);
@@ -89,14 +85,16 @@ static struct seat *arrive(sflight_pool *pool, struct near *at) {
     }
     if (!seat) return &pool->root;
     pthread_mutex_unlock(&pool->lock);
+    /* What its last owner leads still ends by another seat, or by this one again: it would count as led here for good. */
+    seat->leading = 0;
     *at = (struct near){pool->number, seat};
-    if (is_exit_made) pthread_setspecific(exits, near);
+    if (is_exit_made) pthread_setspecific(exits, sflight_inside_near);
     return seat;
 }
 
 /* A handle for one call of the library, which runs no other function of the program. */
 static inline struct seat *enter(sflight_pool *pool) {
-    struct near *at = &near[pool->number % NEAR];
+    struct near *at = &sflight_inside_near[pool->number % NEAR];
     return at->pool == pool->number ? at->seat : arrive(pool, at);
 }
 
@@ -104,8 +102,11 @@ static inline void leave(sflight_pool *pool, struct seat *seat) {
     if (seat == &pool->root) pthread_mutex_unlock(&pool->lock);
 }
 
-static inline void add(atomic_ullong *to, uint64_t more) {
-    atomic_store_explicit(to, atomic_load_explicit(to, memory_order_relaxed) + more, memory_order_relaxed);
+struct seat *sflight_inside_arrive(sflight_pool *pool) {
+    struct seat *seat = arrive(pool, &sflight_inside_near[pool->number % NEAR]);
+    if (seat != &pool->root) return seat;
+    leave(pool, seat);
+    return NULL;
 }
 
 static struct asking *new_asking(struct seat *seat) {
@@ -126,11 +127,16 @@ static struct asking *take_asking(sflight_pool *pool) {
     return asking;
 }
 
-static void put_asking(sflight_pool *pool, struct asking *asking, int led) {
+/* A call ends that the thread has led. It may have begun by another seat. */
+static void leads_no_more(struct seat *seat) {
+    if (seat->leading > 0) seat->leading--;
+}
+
+static void put_asking(sflight_pool *pool, struct asking *asking, bool led) {
     struct seat *seat = enter(pool);
     asking->next = seat->free;
     seat->free = asking;
-    seat->leading -= led;
+    if (led) leads_no_more(seat);
     leave(pool, seat);
 }
 
@@ -268,6 +274,13 @@ static void note(struct noted *noted, sflight_pool *pool) {
     if (noted->by) calls_of(noted->by)->begins(noted);
 }
 
+/* Takes the lock of the key that a cache's recording has, and returns it; null where there is none. */
+static pthread_mutex_t *lock_of(const struct noted *noted, const uint8_t *key, size_t len) {
+    pthread_mutex_t *lock = noted->by ? calls_of(noted->by)->lock_of(noted->by, key, len) : NULL;
+    if (lock) pthread_mutex_lock(lock);
+    return lock;
+}
+
 static void leave_call(sflight_pool *pool, struct asking *asking) {
     uint64_t value;
     SFLIGHT_POINT("before leave");
@@ -305,16 +318,6 @@ static void settle(sflight_pool *pool, struct asking *asking, const sflight_id *
     if (noted->by) noted->is_forgotten = audience.forgotten;
 }
 
-static void lead(sflight_pool *pool, struct asking *asking, const sflight_id *id, const uint8_t *key, size_t len, sflight_load *load,
-                 sflight_keep *keep, void *context, sflight_got *got, struct noted *noted) {
-    if (noted->by) calls_of(noted->by)->leads(noted, post_of(pool, id), id->generation, key, len);
-    got->value = load(context, key, len);
-    if (keep) keep(context, key, len, got->value, &got->stamp);
-    if (noted->by) calls_of(noted->by)->settles(noted);
-    settle(pool, asking, id, got, noted);
-    if (noted->by) calls_of(noted->by)->told(noted->by, noted, id, noted->is_forgotten);
-}
-
 /* Waits for the value of the call that was joined. Returns false if the deadline has passed before. */
 static bool join(sflight_pool *pool, struct asking *asking, const sflight_id *id, const struct timespec *deadline, sflight_got *got,
                  struct noted *noted) {
@@ -328,7 +331,7 @@ static bool join(sflight_pool *pool, struct asking *asking, const sflight_id *id
     return is_told;
 }
 
-static struct timespec deadline_of(int64_t timeout) {
+struct timespec sflight_inside_deadline(int64_t timeout) {
     struct timespec at;
     clock_gettime(CLOCK_MONOTONIC, &at);
     int64_t part = at.tv_nsec + (timeout > 0 ? timeout % 1000000000 : 0);
@@ -338,14 +341,14 @@ static struct timespec deadline_of(int64_t timeout) {
 }
 
 static bool is_over(const struct timespec *deadline) {
-    struct timespec now = deadline_of(0);
+    struct timespec now = sflight_inside_deadline(0);
     return now.tv_sec > deadline->tv_sec || (now.tv_sec == deadline->tv_sec && now.tv_nsec >= deadline->tv_nsec);
 }
 
 /* Asks until the call leads or has joined: SFLIGHT_LED or SFLIGHT_JOINED; SFLIGHT_PENDING, where the deadline passes first; or
- * SFLIGHT_NO_MEMORY. */
-static uint32_t ask(sflight_pool *pool, struct asking *asking, const uint8_t *key, size_t len, const struct timespec *deadline, sflight_id *id,
-                    sflight_got *got) {
+ * SFLIGHT_NO_MEMORY. The lock, if there is one, is that of lock_of. A crowd ends as its call is settled, which takes that lock too. */
+static uint32_t ask(sflight_pool *pool, struct asking *asking, const uint8_t *key, size_t len, const struct timespec *deadline, pthread_mutex_t *lock,
+                    sflight_id *id, sflight_got *got) {
     for (;;) {
         sflight_stamp stamp;
         bool is_more = false;
@@ -374,37 +377,69 @@ static uint32_t ask(sflight_pool *pool, struct asking *asking, const uint8_t *ke
             sched_yield();
         } else if (code != SFLIGHT_DONE) {
             if (deadline && is_over(deadline)) return SFLIGHT_PENDING;
+            if (lock) pthread_mutex_unlock(lock);
             nanosleep(&(struct timespec){0, CROWD}, NULL);
+            if (lock) pthread_mutex_lock(lock);
         }
     }
+}
+
+uint32_t sflight_inside_ask(sflight_pool *pool, const uint8_t *key, size_t len, const struct timespec *deadline, struct doing *d) {
+    note(&d->noted, pool);
+    d->is_moved = false;
+    d->asking = take_asking(pool);
+    if (!d->asking) return SFLIGHT_NO_MEMORY;
+    pthread_mutex_t *lock = lock_of(&d->noted, key, len);
+    uint32_t code = ask(pool, d->asking, key, len, deadline, lock, &d->id, &d->got);
+    if (code == SFLIGHT_LED && d->noted.by) calls_of(d->noted.by)->leads(&d->noted, post_of(pool, &d->id), d->id.generation, key, len);
+    if (lock) pthread_mutex_unlock(lock);
+    if (code == SFLIGHT_LED) d->stamp = d->got.stamp;
+    if (code != SFLIGHT_LED && code != SFLIGHT_JOINED) put_asking(pool, d->asking, false);
+    return code;
+}
+
+void sflight_inside_move(sflight_pool *pool, struct doing *d) {
+    struct seat *seat = enter(pool);
+    leads_no_more(seat);
+    leave(pool, seat);
+    d->is_moved = true;
+}
+
+void sflight_inside_settle(sflight_pool *pool, struct doing *d) {
+    if (d->noted.by) calls_of(d->noted.by)->settles(&d->noted);
+    settle(pool, d->asking, &d->id, &d->got, &d->noted);
+    if (d->noted.by) calls_of(d->noted.by)->told(d->noted.by, &d->noted, &d->id, d->noted.is_forgotten);
+    put_asking(pool, d->asking, !d->is_moved);
+}
+
+bool sflight_inside_wait(sflight_pool *pool, struct doing *d, const struct timespec *deadline) {
+    bool is_told = join(pool, d->asking, &d->id, deadline, &d->got, &d->noted);
+    put_asking(pool, d->asking, false);
+    return is_told;
 }
 
 int sflight_do_and_keep(sflight_pool *pool, const uint8_t *key, size_t len, sflight_load *load, sflight_keep *keep, void *context,
                         int64_t timeout, sflight_got *got) {
     struct timespec at, *deadline = NULL;
-    struct noted noted;
-    sflight_id id;
-    int code = SFLIGHT_DO_DONE;
-    bool led = false;
+    struct doing d;
     if (timeout != SFLIGHT_DO_FOREVER) {
-        at = deadline_of(timeout);
+        at = sflight_inside_deadline(timeout);
         deadline = &at;
     }
-    note(&noted, pool);
-    struct asking *asking = take_asking(pool);
-    if (!asking) return SFLIGHT_DO_NO_MEMORY;
-    switch (ask(pool, asking, key, len, deadline, &id, got)) {
+    int code = SFLIGHT_DO_DONE;
+    switch (sflight_inside_ask(pool, key, len, deadline, &d)) {
     case SFLIGHT_LED:
-        led = true;
-        lead(pool, asking, &id, key, len, load, keep, context, got, &noted);
+        d.got.value = load(context, key, len);
+        if (keep) keep(context, key, len, d.got.value, &d.got.stamp);
+        sflight_inside_settle(pool, &d);
         break;
     case SFLIGHT_JOINED:
-        if (!join(pool, asking, &id, deadline, got, &noted)) code = SFLIGHT_DO_TIMED_OUT;
+        if (!sflight_inside_wait(pool, &d, deadline)) code = SFLIGHT_DO_TIMED_OUT;
         break;
-    case SFLIGHT_PENDING: code = SFLIGHT_DO_TIMED_OUT; break;
-    default: code = SFLIGHT_DO_NO_MEMORY;
+    case SFLIGHT_PENDING: return SFLIGHT_DO_TIMED_OUT;
+    default: return SFLIGHT_DO_NO_MEMORY;
     }
-    put_asking(pool, asking, led);
+    if (code == SFLIGHT_DO_DONE) *got = d.got;
     return code;
 }
 
@@ -413,10 +448,11 @@ int sflight_do(sflight_pool *pool, const uint8_t *key, size_t len, sflight_load 
 }
 
 bool sflight_do_forget(sflight_pool *pool, const uint8_t *key, size_t len) {
-    struct noted noted;
+    struct noted noted = {0};
     sflight_id id;
     uint32_t code;
     note(&noted, pool);
+    pthread_mutex_t *lock = lock_of(&noted, key, len);
     do {
         SFLIGHT_POINT("before forget");
         struct seat *seat = enter(pool);
@@ -425,11 +461,27 @@ bool sflight_do_forget(sflight_pool *pool, const uint8_t *key, size_t len) {
         leave(pool, seat);
         if (code == SFLIGHT_BUSY) sched_yield();
     } while (code == SFLIGHT_BUSY);
+    if (lock) {
+        calls_of(noted.by)->closes_key(&noted, key, len);
+        pthread_mutex_unlock(lock);
+    }
     SFLIGHT_POINT("forgotten");
     /* The call may be of a recording that has begun since this began. */
     struct recorder *by = noted.by || code != SFLIGHT_DONE ? noted.by : atomic_load(&pool->recorder);
     if (by) calls_of(by)->forgot(by, &noted, code == SFLIGHT_DONE ? &id : NULL, key, len);
     return code == SFLIGHT_DONE;
+}
+
+void sflight_inside_forget_call(sflight_pool *pool, const uint8_t *key, size_t len, const struct doing *d) {
+    const sflight_stamp stamp = {d->stamp.table - 1, d->stamp.slot, d->stamp.age};
+    uint32_t code;
+    do {
+        SFLIGHT_POINT("before forget");
+        struct seat *seat = enter(pool);
+        code = sflight_forget_call(&seat->handle, key, len, &d->id, &stamp, TRIES);
+        leave(pool, seat);
+        if (code == SFLIGHT_BUSY) sched_yield();
+    } while (code == SFLIGHT_BUSY);
 }
 
 bool sflight_do_is_still(sflight_pool *pool, const sflight_do_stamp *stamp) {
@@ -464,7 +516,7 @@ sflight_pool *sflight_do_open(uint32_t loads, void (*share)(uint64_t value, uint
     uint64_t seeds[2];
     sflight_size size = {0};
     if (loads > SFLIGHT_MOST_CELLS) return NULL;
-    sflight_pool *pool = aligned_alloc(64, sizeof *pool);
+    sflight_pool *pool = aligned_alloc(CACHE_LINE, sizeof *pool);
     if (!pool) return NULL;
     memset(pool, 0, sizeof *pool);
     pool->number = atomic_fetch_add(&pools, 1) + 1;
@@ -484,7 +536,7 @@ sflight_pool *sflight_do_open(uint32_t loads, void (*share)(uint64_t value, uint
 void sflight_do_close(sflight_pool *pool) {
     if (!pool) return;
     if (pool->kept) calls_of(pool->kept)->closes(pool);
-    struct near *at = &near[pool->number % NEAR];
+    struct near *at = &sflight_inside_near[pool->number % NEAR];
     if (at->pool == pool->number) give_back(at);
     for (struct seat *seat = pool->seats, *next; seat; seat = next) {
         next = seat->next;

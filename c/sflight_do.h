@@ -87,6 +87,8 @@ typedef struct sflight_recorded {
     uint64_t events; /* lines that were written, beside those of the format */
     uint64_t lost;   /* events that were dropped */
     int failed;      /* what the writer returned, if that was not 0 */
+    /* Recorded values of a cache that left it to make room, which is no event. */
+    uint64_t evictions;
 } sflight_recorded;
 
 /* A timeout that never passes. */
@@ -166,7 +168,7 @@ int sflight_do_record(sflight_pool *pool, sflight_write *write, void *context);
  * ending its recording, or if the writer calls this. `recorded` may be null. */
 int sflight_do_stop(sflight_pool *pool, sflight_recorded *recorded);
 
-/* Returns the version that sflight_do.c was compiled for, such as "0.1.0". It equals
+/* Returns the version that sflight_do.c was compiled for, such as "0.2.0". It equals
  * SFLIGHT_VERSION if the program includes the same header. */
 const char *sflight_version(void);
 

@@ -1,184 +1,196 @@
 package singleflight
 
-import (
-	"sync"
-	"sync/atomic"
+// What makes room is chosen by S3-FIFO (Juncheng Yang and others, "FIFO queues are all you need for
+// cache eviction", SOSP 2023), in each shard. A value comes into the small queue, which has a tenth of
+// the shard's weight, and moves to the main one if it was found meanwhile. So a key that is asked for
+// once pushes out none that is asked for again. A key that left the small queue lately, of which there
+// is a ghost, comes into the main one at once.
+//
+// An eviction passes mostPasses nodes at most. Each that it passes has lost a mark, which a look set,
+// or has moved to the main queue, which it does once. So evictions take a constant number of steps for
+// each value that is kept and each look that finds one, whatever the cache had before.
+const (
+	queueNone = iota // of a node that is in neither
+	queueSmall
+	queueMain
+
+	smallPart   = 10
+	mostMarks   = 3
+	mostPasses  = 128
+	ghostsOfRow = 8
 )
 
-// A clock chooses which item of a table makes room, by second chance. It has two rings: of the items that are fresh, and
-// of the others. A hand goes over each, and over nothing else: so a step finds an item, however many there were before.
-//
-// A step takes the item out; or it takes the mark of one that was found, which another look set; or it meets one that is
-// about to be kept, or that others take out. So evictions take a constant number of steps for each value that is kept and
-// each look that finds one.
-type clock struct {
-	mu    sync.Mutex // protects all, and what items have of their ring; no other lock is taken under it
-	rings [2]ring    // of the others, and of the fresh items
-	steps uint64     // how many there were
+// A queue has the nodes of a shard in the order in which they came.
+type queue[K comparable, V any] struct {
+	head, tail *node[K, V]
+	weight     int64
 }
 
-type ring struct {
-	hand  *item // the next
-	count int
-}
-
-// add puts the item behind the hand, which comes to it last.
-func (r *ring) add(it *item) {
-	if next := r.hand; next == nil {
-		it.next, it.last, r.hand = it, it, it
+func (q *queue[K, V]) append(n *node[K, V], number int) {
+	n.set(flagQueue, uint32(number)*(flagQueue/3))
+	n.before, n.after = q.tail, nil
+	if q.tail == nil {
+		q.head = n
 	} else {
-		it.next, it.last = next, next.last
-		it.last.next, next.last = it, it
+		q.tail.after = n
 	}
-	r.count++
+	q.tail = n
+	q.weight += n.cost()
 }
 
-func (r *ring) remove(it *item) {
-	if r.hand == it {
-		r.hand = it.next
+func (q *queue[K, V]) remove(n *node[K, V]) {
+	if n.before == nil {
+		q.head = n.after
+	} else {
+		n.before.after = n.after
 	}
-	if it.next == it {
-		r.hand = nil
+	if n.after == nil {
+		q.tail = n.before
+	} else {
+		n.after.before = n.before
 	}
-	it.last.next, it.next.last = it.next, it.last
-	it.next, it.last = nil, nil
-	r.count--
+	// A node that has left holds no other.
+	n.set(flagQueue, queueNone)
+	n.before, n.after = nil, nil
+	q.weight -= n.cost()
 }
 
-func (c *clock) ringOf(it *item) *ring {
-	if it.fresh {
-		return &c.rings[1]
-	}
-	return &c.rings[0]
+// The hashes of keys that left the small queue lately: about as many as there are nodes. A row has
+// those of a part of all hashes, the latest first, and 0 where there are fewer.
+type ghosts struct{ rows [][ghostsOfRow]uint32 }
+
+func (g *ghosts) row(print uint32) *[ghostsOfRow]uint32 {
+	// The upper bits have chosen the shard.
+	return &g.rows[uint64(print&(1<<shardBit-1))*uint64(len(g.rows))>>shardBit]
 }
 
-// add puts in an item that has not been in any.
-func (c *clock) add(it *item, fresh bool) {
-	c.mu.Lock()
-	it.fresh = fresh
-	c.ringOf(it).add(it)
-	c.mu.Unlock()
-}
-
-// remove takes the item out, if it is in.
-func (c *clock) remove(it *item) {
-	c.mu.Lock()
-	if it.next != nil {
-		c.ringOf(it).remove(it)
-	}
-	c.mu.Unlock()
-}
-
-// settle makes the item one that is not fresh. Whether it was.
-func (c *clock) settle(it *item) bool {
-	c.mu.Lock()
-	was := it.next != nil && it.fresh
-	if was {
-		c.rings[1].remove(it)
-		it.fresh = false
-		c.rings[0].add(it)
-	}
-	c.mu.Unlock()
-	return was
-}
-
-// step moves a hand on, and returns the item that it was at; none where there are no items. While more than one item in
-// freshPart is fresh, it is the hand of these.
-func (c *clock) step() (it *item, fresh bool) {
-	c.mu.Lock()
-	defer c.mu.Unlock()
-	others, news := &c.rings[0], &c.rings[1]
-	r := others
-	if news.count*freshPart > news.count+others.count || others.count == 0 {
-		r = news
-	}
-	if it = r.hand; it != nil {
-		r.hand = it.next
-		c.steps++
-	}
-	return it, r == news
-}
-
-// count returns how many items there are.
-func (c *clock) count() int {
-	c.mu.Lock()
-	defer c.mu.Unlock()
-	return c.rings[0].count + c.rings[1].count
-}
-
-// laps returns how many steps pass each item twice in each ring.
-func (c *clock) laps() int { return 4*c.count() + 4 }
-
-// wayFor returns the way that the item is to have: that of its key; or an empty one; or that of an
-// item that is not current, or was not found since the last that wanted a way; or any. crowded
-// tells whether it has an item that is current and another key's. The lock is held.
-func (t *values) wayFor(set *waySet, it *item) (way int, crowded bool) {
-	if old, way := set.find(keyed{it.key, it.print}); old != nil {
-		return way, false
-	}
-	for way := range set.items {
-		if set.item(way) == nil {
-			return way, false
-		}
-	}
-	for way := range set.items {
-		if !t.p.table.isStill(set.item(way).stamp) {
-			return way, false
-		}
-	}
-	for way := range set.items {
-		if old := set.item(way); !old.pass() {
-			return way, true
-		}
-	}
-	return int(it.print >> 16 % waysOfSet), true
-}
-
-// pass takes the mark of an item that was found. Whether it had one.
-func (it *item) pass() bool {
-	if atomic.LoadUint32(&it.used) == 0 {
-		return false
-	}
-	atomic.StoreUint32(&it.used, 0)
-	return true
-}
-
-// reserve adds to the weight, and makes room for that. It fails where others have reserved what
-// there is.
-func (t *values) reserve(cost int64, out *[]*item) bool {
-	for {
-		weight := t.room.weight.Load()
-		point(beforeKeep)
-		if weight <= t.room.limit-cost {
-			if t.room.weight.CompareAndSwap(weight, weight+cost) {
+func (g *ghosts) has(print uint32) bool {
+	if len(g.rows) > 0 {
+		for _, ghost := range g.row(print) {
+			if ghost == print|1 {
 				return true
 			}
-		} else if it := t.evict(); it != nil {
-			*out = append(*out, it)
-		} else {
-			return false
 		}
+	}
+	return false
+}
+
+// add adds the hash of a key that leaves a shard of so many nodes. With another number of rows many
+// ghosts are not found; that is rare, since a shard grows while there is room, when nothing leaves.
+func (g *ghosts) add(print uint32, nodes int) {
+	if len(g.rows)*ghostsOfRow < nodes {
+		g.rows = make([][ghostsOfRow]uint32, nodes/ghostsOfRow+1)
+	}
+	row := g.row(print)
+	copy(row[1:], row[:])
+	row[0] = print | 1
+}
+
+// evict takes out the node whose turn it is, if there is one. The lock is held.
+func (t *values[K, V]) evict(s *valueShard[K, V]) *node[K, V] {
+	small, main := s.queue(queueSmall), s.queue(queueMain)
+	for passes := 1; ; passes++ {
+		isSmall := small.head != nil && (main.head == nil || small.weight > s.weight/smallPart)
+		q := main
+		if isSmall {
+			q = small
+		}
+		n := q.head
+		if n == nil {
+			return nil
+		}
+		s.passes++
+		marks := n.marks()
+		if marks == 0 || passes > mostPasses {
+			if isSmall {
+				s.ghosts.add(n.print, s.nodes)
+			}
+			t.remove(s, n, ReasonRoom)
+			return n
+		}
+		if isSmall {
+			marks = 1
+		}
+		n.set(flagMarks, (marks-1)*flagMark)
+		q.remove(n)
+		main.append(n, queueMain)
 	}
 }
 
-// evict takes one item out, by second chance: the first to which a hand comes that is not current,
-// or was not found since the hand last passed.
-func (t *values) evict() *item {
-	for steps := t.clock.laps(); steps > 0; steps-- {
-		it, fresh := t.clock.step()
-		if it == nil {
-			return nil
-		}
-		if it.pass() && t.p.table.isStill(it.stamp) {
-			if fresh {
-				t.clock.settle(it)
+// reserve makes room for the cost in the shard, where so much is free that was reserved before. It
+// fails if the shard has no more to give; or if it has little, and the others are to give first. The
+// lock is held.
+//
+// The weight is changed once, and not at all where as much has left as comes. So it is not what all
+// shards wait for.
+func (t *values[K, V]) reserve(s *valueShard[K, V], cost, freed int64, try int, out *[]*node[K, V]) bool {
+	for {
+		limit, weight := t.room.limit.Load(), t.room.weight.Load()
+		if weight-freed <= limit-cost {
+			if cost == freed || t.room.weight.CompareAndSwap(weight, weight+cost-freed) {
+				return true
 			}
 			continue
 		}
-		if t.drop(it) {
-			t.room.evicted.Add(1)
-			return it
+		var n *node[K, V]
+		if try > 0 || !t.isPoor(s, limit) {
+			n = t.evict(s)
+		}
+		if n == nil {
+			t.room.weight.Add(-freed)
+			return false
+		}
+		freed += n.cost()
+		t.leaves(n, out)
+	}
+}
+
+// isPoor tells whether the shard has less than half of what each would have of the limit. If it gave
+// room to each of its values, it would never have more.
+func (t *values[K, V]) isPoor(s *valueShard[K, V], limit int64) bool {
+	return len(t.shards) > 1 && s.weight < limit/int64(2*len(t.shards))
+}
+
+// makeRoom evicts what costs so much from other shards: those that have their part of the limit, and if
+// these are too few, any. No lock is held.
+func (t *values[K, V]) makeRoom(cost int64, not *valueShard[K, V], out *[]*node[K, V]) {
+	freed := int64(0)
+	part := t.room.limit.Load() / int64(len(t.shards))
+	for _, least := range []int64{part, 0} {
+		start := int(t.room.turn.Add(1))
+		for i := range t.shards {
+			s := &t.shards[(start+i)&(len(t.shards)-1)]
+			if s == not || freed >= cost {
+				continue
+			}
+			acquire(&s.mu)
+			for freed < cost && s.weight >= least {
+				n := t.evict(s)
+				if n == nil {
+					break
+				}
+				freed += n.cost()
+				t.room.weight.Add(-n.cost())
+				t.leaves(n, out)
+			}
+			s.mu.Unlock()
 		}
 	}
-	return nil
+}
+
+// shrink evicts until the values cost no more than the limit, which was made less. A keep that has seen
+// the earlier limit has the lock of its shard: it is waited for.
+func (t *values[K, V]) shrink() (out []*node[K, V]) {
+	for i := range t.shards {
+		acquire(&t.shards[i].mu)
+		t.shards[i].mu.Unlock()
+	}
+	for try := 0; try < mostTries; try++ {
+		over := t.room.weight.Load() - t.room.limit.Load()
+		if over <= 0 {
+			break
+		}
+		t.makeRoom(over, nil, &out)
+	}
+	return out
 }

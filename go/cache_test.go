@@ -57,7 +57,7 @@ func newOrigin(t testing.TB, limit int64, options ...Option) *origin {
 }
 
 // So many slots that no two keys of a test share one, but by a rare chance.
-func wide(s *sizes) { s.slots = 1 << 20 }
+func wide(s *sizes) { s.slots = 1 << 17 }
 
 func newCache[V any](
 	t testing.TB, limit int64, load func(context.Context, string) (V, error), options ...Option,
@@ -104,7 +104,7 @@ func TestCacheHits(t *testing.T) {
 	}
 	st := c.Stats()
 	calls := st.Calls
-	st.Calls = Stats{}
+	st.Calls, st.LoadTime, st.LoadTimes = Stats{}, 0, [LoadTimeBuckets]uint64{}
 	want := CacheStats{
 		Hits: 7, Misses: 4, Loads: 3, Kept: 3, Values: 3, Weight: 3, Limit: 10,
 	}
@@ -332,8 +332,8 @@ func TestCacheForget(t *testing.T) {
 	o.Forget("key-3")
 }
 
-// Each look asks whether the call is current: a value is not found whose stamp has ended, although
-// nobody has taken it out.
+// Each look after a Forget asks whether the call is current: a value is not found whose stamp has ended,
+// although nobody has taken it out.
 func TestCacheAsksTheLibrary(t *testing.T) {
 	o := newOrigin(t, 10, wide)
 	for n := int64(0); n < 3; n++ {
@@ -466,13 +466,10 @@ func TestCachePutBesideALoad(t *testing.T) {
 	go func() { v, _ := c.Get(always, "ada"); got <- v }()
 	begun(t, started)
 	// As Put does after its Forget.
-	n := &node[int]{item: item{key: "ada", cost: 1}, value: 2}
+	n := nodeOf(&c.room, &known[string, int]{key: "ada", print: c.printOf("ada"), cost: 1, value: 2})
 	within(t, patience, "it waits for nobody", func() {
-		f := c.now.Load()
-		k := f.values.keyed("ada")
-		n.print = k.print
-		last, number := c.write(k)
-		if out := f.put(&n.item, last, number); len(out) != 0 || n.isKept() {
+		last := c.room.begunOf(n.print)
+		if kept, out := c.now.Load().put("ada", n, last, last.Add(1)); len(out) != 0 || kept {
 			t.Error("the load is newer")
 		}
 	})
@@ -488,17 +485,17 @@ func TestCachePutBesideALoad(t *testing.T) {
 func TestCachePutThatIsLate(t *testing.T) {
 	c := newCache(t, 10, func(context.Context, string) (int, error) { return 2, nil }, wide)
 	f := c.now.Load()
-	k := f.values.keyed("ada")
-	n := &node[int]{item: item{key: "ada", print: k.print, cost: 1}, value: 1}
-	last, number := c.write(k)
-	c.write(k)
+	n := nodeOf(&c.room, &known[string, int]{key: "ada", print: c.printOf("ada"), cost: 1, value: 1})
+	last := c.room.begunOf(n.print)
+	number := last.Add(1)
+	last.Add(1)
 	got := make(chan int, 1)
 	a := asking{key: "ada"}
 	f.p.asks(&a)
 	go func() { v, _ := c.Get(always, "ada"); got <- v }()
 	until(t, "it joins", func() bool { return c.Stats().Calls.Joins == 1 })
-	f.settle(&a, &n.item, last, number)
-	if v := came(t, got); v != 2 || n.isKept() {
+	kept, _ := f.settle(&a, n, last, number)
+	if v := came(t, got); v != 2 || kept {
 		t.Error("who has joined loads", v)
 	}
 }
@@ -743,72 +740,55 @@ func TestCacheKeysThatShare(t *testing.T) {
 	all.Wait()
 }
 
-// A table of values, and what keeps one in it, for tests of the table alone.
-func tableWith(t *testing.T, limit int64) (*values, func(key string, print uint64) (*item, []*item)) {
-	size := defaultSizes()
-	wide(&size)
-	p, err := size.core()
-	if err != nil {
-		t.Fatal(err)
-	}
-	t.Cleanup(p.table.close)
-	table := newValues(p, &room{limit: limit, hasCosts: true})
-	return table, func(key string, print uint64) (*item, []*item) {
+// A table of values in one shard, and what keeps one in it, for tests of the table alone.
+func tableWith(t *testing.T, limit int64) (*values[string, int], func(key string, print uint32) (*node[string, int], []*node[string, int])) {
+	c := newCache(t, limit, number, wide, WithOnEvict(func(string, int) {}))
+	table := &c.now.Load().values
+	table.open(c.now.Load().p, &c.room, 1)
+	return table, func(key string, print uint32) (*node[string, int], []*node[string, int]) {
 		a := asking{key: fmt.Sprint("call of ", key)}
-		p.asks(&a)
-		it := &item{key: key, print: print, cost: 1}
-		out := table.keep(it, a.stamp.packed())
-		p.ends(new(Result), &a)
-		return it, out
+		table.p.asks(&a)
+		n := nodeOf(&c.room, &known[string, int]{key: key, print: print, cost: 1})
+		_, out := table.keep(n, a.stamp.packed())
+		table.p.ends(new(Result), &a)
+		return n, out
 	}
 }
 
 // Two keys of one hash have two values, and a key with the hash of another has none.
 func TestTableHash(t *testing.T) {
-	const same = 0x123456789abcdef0
+	const same = 0x12345678
 	table, keep := tableWith(t, 100)
 	a, _ := keep("a", same)
-	if it, _ := table.look(keyed{"b", same}, nil); it != nil {
+	if n, _, _ := table.look("b", same, watch{}); n != nil {
 		t.Error("b has a's value")
 	}
 	b, out := keep("b", same)
 	if len(out) != 0 {
 		t.Error("a leaves for b", out[0].key)
 	}
-	// The hashes differ in bits that the table does not look at first.
+	// The hashes differ in bits that choose no bucket yet.
 	c, _ := keep("c", same^1<<20)
-	for key, want := range map[keyed]*item{
-		{"a", same}: a, {"b", same}: b, {"c", same ^ 1<<20}: c, {"d", same}: nil,
-	} {
-		if it, _ := table.look(key, nil); it != want {
-			t.Error("a look", key, it)
+	for i := 0; i < 3; i++ {
+		for key, want := range map[string]*node[string, int]{"a": a, "b": b, "d": nil} {
+			if n, _, _ := table.look(key, same, watch{}); n != want {
+				t.Error("a look", key, n)
+			}
+		}
+		if n, _, _ := table.look("c", same^1<<20, watch{}); n != c {
+			t.Error("a look at c", n)
+		}
+		// The shard grows.
+		for n := 0; n < 20; n++ {
+			keep(keyNumber(20*i+n), uint32(n)*0x9e3779b9)
 		}
 	}
-	if out := table.close(); len(out) != 3 {
+	table.drop(a, ReasonForgotten)
+	if n, _, _ := table.look("b", same, watch{}); n != b {
+		t.Error("b left with a")
+	}
+	if out := table.close(ReasonClosed); len(out) != 62 {
 		t.Error("all leave", len(out))
-	}
-}
-
-// A set that is full: one of its items leaves, and it is not one that was found since.
-func TestTableSet(t *testing.T) {
-	table, keep := tableWith(t, 100000)
-	for i := 0; i < waysOfSet; i++ {
-		if _, out := keep(keyNumber(i), uint64(i)<<32); len(out) != 0 {
-			t.Error("there is a way", i)
-		}
-	}
-	for i := 0; i < waysOfSet; i++ {
-		if i != 5 {
-			table.look(keyed{keyNumber(i), uint64(i) << 32}, nil)
-		}
-	}
-	_, out := keep("more", 99<<32)
-	if len(out) != 1 || out[0].key != "key-5" {
-		t.Error("the one that was not found leaves", out)
-	}
-	n, weight := table.room.values(), table.room.weight.Load()
-	if n != waysOfSet || weight != waysOfSet {
-		t.Error("as many as there are ways", n, weight)
 	}
 }
 
@@ -863,7 +843,7 @@ func TestCacheLimit(t *testing.T) {
 		watch.Wait()
 		sum := int64(0)
 		for _, it := range c.now.Load().values.all() {
-			sum += it.cost
+			sum += it.cost()
 		}
 		if st := c.Stats(); sum != st.Weight || sum > 100 || slots > 1 && sum < 50 {
 			t.Errorf("%d slots: the values cost %d: %+v", slots, sum, st)
@@ -886,7 +866,7 @@ func TestCacheLimitByStep(t *testing.T) {
 			}
 			sum := int64(0)
 			for _, it := range c.now.Load().values.all() {
-				sum += it.cost
+				sum += it.cost()
 			}
 			if st := c.Stats(); sum > limit || sum != st.Weight {
 				t.Fatalf("limit %d: they cost %d: %+v", limit, sum, st)
@@ -895,7 +875,14 @@ func TestCacheLimitByStep(t *testing.T) {
 	}
 }
 
-// Hits of a cache of so many values by least recent use, which makes room for each value.
+// How many values the evictions of a cache have come to.
+func passes[V any](c *Cache[string, V]) (n uint64) {
+	for i := range c.now.Load().values.shards {
+		n += c.now.Load().values.shards[i].passes
+	}
+	return n
+}
+
 // Evictions take a constant number of steps, also where the cache had many more values before, of which the last are
 // anywhere in the table.
 func TestCacheEvictionSteps(t *testing.T) {
@@ -909,12 +896,17 @@ func TestCacheEvictionSteps(t *testing.T) {
 	for i := 0; i < small; i++ {
 		mustGet(t, c, keyNumber(i), i)
 	}
-	// The small values leave. The last stay long: they were found.
+	// The small values leave.
 	for i := small; i < small+2*large; i++ {
 		mustGet(t, c, keyNumber(i), i)
 	}
-	clock := &c.now.Load().values.clock
-	before, evicted := clock.steps, c.Stats().Evictions
+	// Those that are there have as many marks as a node can have.
+	for n := 0; n < mostMarks; n++ {
+		for i := small + large; i < small+2*large; i++ {
+			c.GetIfPresent(keyNumber(i))
+		}
+	}
+	before, evicted := passes(c), c.Stats().Evictions
 	for i := small + 2*large; i < small+2*large+gets; i++ {
 		mustGet(t, c, keyNumber(i), i)
 	}
@@ -922,11 +914,13 @@ func TestCacheEvictionSteps(t *testing.T) {
 	if evicted < gets/2 {
 		t.Fatal("evicted", evicted)
 	}
-	if steps := clock.steps - before; steps > 4*evicted {
+	// Each that was passed and stayed has lost a mark, or has come to the main queue.
+	if steps := passes(c) - before; steps > evicted+(mostMarks+1)*large {
 		t.Errorf("%d steps for %d evictions", steps, evicted)
 	}
 }
 
+// Hits of a cache of so many values by least recent use, which makes room for each value.
 func hitsByLRU(trace []uint64, values int) (hits int) {
 	order, at := list.New(), map[uint64]*list.Element{}
 	for _, key := range trace {
@@ -943,7 +937,7 @@ func hitsByLRU(trace []uint64, values int) (hits int) {
 	return hits
 }
 
-// What makes room is chosen well: there are as many hits as by least recent use, but for two in a
+// What makes room is chosen well: there are as many hits as by least recent use, but for four in a
 // hundred gets; and where keys are asked for by zipf's law, or once, more.
 func TestCacheHitRatio(t *testing.T) {
 	const keys, gets = 10000, 100000
@@ -965,7 +959,7 @@ func TestCacheHitRatio(t *testing.T) {
 		{"by zipf, 5 %", zipf, keys / 20, 2},
 		{"by zipf, 20 %", zipf, keys / 5, 0},
 		{"one in two is asked for once", scan, keys / 20, 3},
-		{"the keys change", moves, keys / 20, -2},
+		{"the keys change", moves, keys / 20, -4},
 	} {
 		c := newCache(t, int64(it.values), number, wide)
 		for _, key := range it.trace {
@@ -1054,7 +1048,7 @@ func TestCacheOnEvict(t *testing.T) {
 	})
 	stays := map[int64]bool{}
 	for _, it := range c.now.Load().values.all() {
-		stays[valueOf[int64](it)] = true
+		stays[it.value] = true
 	}
 	for id := range all {
 		n := all[id].times.Load()
@@ -1284,7 +1278,7 @@ func TestCacheTTL(t *testing.T) {
 	var steady, wall atomic.Int64
 	clock := func() instant { return instant{steady.Load(), wall.Load()} }
 	var left []string
-	o := newOrigin(t, 10, wide, WithTTL(time.Minute), func(s *sizes) { s.clock = clock },
+	o := newOrigin(t, 10, wide, WithTTL(time.Minute), func(s *sizes) { s.cache.lives.clock = clock },
 		WithOnEvict(func(key string, v page) { left = append(left, fmt.Sprint(key, " ", v.version)) }))
 	const second = int64(time.Second)
 	step := func(what string, both, wallAlone int64, loads int64) {
@@ -1336,7 +1330,7 @@ func TestCacheTTLOfALongLoad(t *testing.T) {
 		now.Add(int64(50 * time.Second))
 		return loads, nil
 	}, wide, WithTTL(time.Minute), func(s *sizes) {
-		s.clock = func() instant { return instant{now.Load(), now.Load()} }
+		s.cache.lives.clock = func() instant { return instant{now.Load(), now.Load()} }
 	})
 	mustGet(t, c, "ada", 1)
 	mustGet(t, c, "ada", 1)
@@ -1369,7 +1363,7 @@ func TestCacheValuesAreFreed(t *testing.T) {
 	}
 	c := newCache(t, 20, func(context.Context, string) (*big, error) { return newBig(), nil },
 		wide, WithTTL(time.Minute), func(s *sizes) {
-			s.clock = func() instant { return instant{now.Load(), now.Load()} }
+			s.cache.lives.clock = func() instant { return instant{now.Load(), now.Load()} }
 		})
 	for i := 0; i < 20; i++ {
 		ctx, cancel := context.WithCancel(always)
@@ -1496,24 +1490,24 @@ func TestCacheGrows(t *testing.T) {
 		WithLoads(2), WithCost(func(string, int) int64 { return 1 << 10 }),
 		WithOnEvict(func(string, int) { left.Add(1) }))
 	const keys = 40000
-	sets := len(c.now.Load().values.sets.Load())
+	buckets := len(c.now.Load().values.shards[0].index.Load())
 	for n := 0; n < 3; n++ {
 		for i := 0; i < keys; i++ {
 			mustGet(t, c, keyNumber(i), i)
 		}
 	}
 	st := c.Stats()
-	if n := len(c.now.Load().values.sets.Load()); n <= sets {
-		t.Errorf("it grows for want of ways: %d, %+v", n, st)
+	if n := len(c.now.Load().values.shards[0].index.Load()); n <= buckets {
+		t.Errorf("it grows: %d, %+v", n, st)
 	}
 	if st.Values < keys*9/10 || int64(st.Left) != left.Load() || st.Weight != int64(st.Values)<<10 || st.Loads > 2*keys {
 		t.Errorf("it has most of the values: %+v", st)
 	}
 	sum := int64(0)
 	for _, it := range c.now.Load().values.all() {
-		sum += it.cost
+		sum += it.cost()
 	}
-	if sum != st.Weight || c.now.Load().values.clock.count() != int(st.Values) {
+	if sum != st.Weight || c.Len() != int(st.Values) {
 		t.Errorf("what they cost: %d, %+v", sum, st)
 	}
 	c.Close()

@@ -1,420 +1,609 @@
 package singleflight
 
 import (
-	"hash/maphash"
+	"math"
 	"sync"
 	"sync/atomic"
 	"time"
 )
 
-// What a cache knows of a value that was loaded, beside the value.
-type item struct {
-	key   string
-	print uint64 // a hash of the key
-	stamp Stamp  // of the call that loaded it; written before the item is kept
-	cost  int64
-	born  instant // when its load began, where there is a TTL
-	used  uint32  // whether it was found since a hand last passed it
-	state uint32  // see below
-	fresh bool    // whether it was not found yet, in a clock; see values
-	next  *item   // of its ring of the clock; none where it is in none
-	last  *item
+// A node is a value that was loaded or put, or an error that is kept, with what the cache knows of it.
+// There is one for each value, so its parts are packed: TestMemoryOfCaches measures what they take.
+type node[K comparable, V any] struct {
+	key           K
+	value         V
+	stamped       uint64      // the age of the stamp of the call that loaded it; written before the node is kept
+	chain         pointer     // the next of its bucket
+	before, after *node[K, V] // in its queue; the lock of its shard protects them
+	extras        *extras     // written before the node is kept; values of one era share them
+	print         uint32      // a hash of the key
+	slot          uint32      // of its stamp
+	flags         uint32      // see below
+	born          uint32      // the lower bits of its birth, if it has a life
+	price         int32       // its cost, or isDear
+	met           int32       // how old it was by the steady clock when it was last found, in ticks
 }
 
-// The state of an item.
+// A mortal is a node with a life: one whose value may have an end.
+type mortal[K comparable, V any] struct {
+	node[K, V]
+	ttl time.Duration // 0 without end
+}
+
+// The flags of a node: why it has left, and one, or 0; its queue; whether a load runs in the background that is to
+// replace it; whether it has a life; and how often it was found, less what an eviction took off. The upper bits are
+// written before the node is kept, and stay: those of its birth, and the table of its stamp.
 const (
-	isLoaded = iota
-	isKept   // it was put into a table, and its call was current then
+	flagReason  = 1<<3 - 1
+	flagQueue   = 3 << 3
+	flagRefresh = 1 << 5
+	flagLife    = 1 << 6
+	flagMark    = 1 << 7
+	flagMarks   = mostMarks * flagMark
+	flagBorn    = (1<<12 - 1) << 12
+	flagTable   = (1<<8 - 1) << 24
 )
 
-func (it *item) isKept() bool { return atomic.LoadUint32(&it.state) == isKept }
-
-// A moment by the steady clock and by the wall clock, in nanoseconds.
-type instant struct{ steady, wall int64 }
-
-var started = time.Now()
-
-func bothClocks() instant {
-	now := time.Now()
-	return instant{int64(now.Sub(started)), now.UnixNano()}
+// What is known of a value before the cache makes a node of it.
+type known[K comparable, V any] struct {
+	key   K
+	print uint32
+	value V
+	cost  int64 // below 0 of one that is not to be kept
+	from  birth
+	ttl   time.Duration // 0 without end
+	tags  []string
+	err   error // that the node stands for
 }
 
-// Whether one of the clocks says that it is as old as that, or older.
-func (it *item) isOld(now instant, ttl time.Duration) bool {
-	return now.steady-it.born.steady >= int64(ttl) || now.wall-it.born.wall >= int64(ttl)
+// nodeOf makes the node of a value, or of an error.
+func nodeOf[K comparable, V any](r *room, it *known[K, V]) (n *node[K, V]) {
+	// How long an error is kept, is said later.
+	hasLife := r.lives.has || it.ttl > 0 || it.err != nil
+	if hasLife {
+		n = &(&mortal[K, V]{ttl: it.ttl}).node
+	} else {
+		n = new(node[K, V])
+	}
+	n.key, n.print, n.value, n.price = it.key, it.print, it.value, priceOf(it.cost)
+	if len(it.tags) > 0 || it.err != nil || n.price == isDear {
+		n.extras = r.extrasOf(it.from, it.tags)
+		if it.err != nil || n.price == isDear {
+			n.extras.rare = &rare{err: it.err, cost: it.cost}
+		}
+	} else if hasLife {
+		n.extras = r.eraOf(it.from.born)
+	}
+	if hasLife {
+		n.lives(it.from.born.steady)
+	}
+	return n
 }
 
-// What the values of a cache cost together, over all its tables, and what came and left.
-type room struct {
-	limit               int64
-	hasCosts            bool
-	ttl                 time.Duration
-	_                   [64]byte
-	weight              atomic.Int64 // what is kept, and about to be; within the limit
-	kept, left, evicted atomic.Uint64
+// mortal returns the mortal that a node with a life is.
+func (n *node[K, V]) mortal() *mortal[K, V] { return (*mortal[K, V])(pointer(n)) }
+
+func (n *node[K, V]) hasLife() bool { return atomic.LoadUint32(&n.flags)&flagLife != 0 }
+
+// The price of a node whose extras have its cost, since that has more than 31 bits.
+const isDear = math.MinInt32
+
+// priceOf returns the price of a node with this cost.
+func priceOf(cost int64) int32 {
+	switch {
+	case cost > math.MaxInt32:
+		return isDear
+	case cost < 0:
+		return -1
+	}
+	return int32(cost)
 }
 
-// How many values are kept.
-func (r *room) values() uint64 {
-	// What leaves was counted before as kept.
-	left := r.left.Load()
-	return r.kept.Load() - left
+// cost returns what the value costs. It is below 0 of one that is not to be kept.
+func (n *node[K, V]) cost() int64 {
+	if n.price == isDear {
+		return n.extras.rare.cost
+	}
+	return int64(n.price)
 }
 
-const (
-	waysOfSet   = 8
-	ghostsOfSet = 2
-	// While more than one item in so many is fresh, a fresh one makes room.
-	freshPart = 5
-
-	// The bit of a tag: that there is an item.
-	isThere = 1
-)
-
-// A values holds the values of a cache which were loaded by the calls of one core. It is a
-// set-associative cache: a key's value may be in one of the eight ways of its set. That a value is
-// still current is asked at each look; the rest is tested and not proved.
-//
-// A look takes no lock, and writes to nothing that others read but an item's mark that it was
-// found, if it has none. Whoever changes a set has its lock.
-//
-// An item is fresh until it was found again. What makes room is chosen by second chance, by two
-// hands: one passes over the fresh items, and one over the others. Fresh items have a fifth of the
-// cache, so that keys which are asked for once do not push out those which are asked for again. An
-// item whose key left the set lately is not fresh.
-type values struct {
-	p       *core
-	seed    maphash.Seed
-	room    *room
-	sets    setsPointer
-	mu      sync.Mutex // taken to have more sets
-	isFixed bool       // whether there are as many as may be
-	clock   clock
-	crowded atomic.Uint64 // how many current values had to leave for want of a way
+// stamp returns the stamp of the call that loaded it.
+func (n *node[K, V]) stamp() Stamp {
+	return Stamp{uint64(atomic.LoadUint32(&n.flags)&flagTable)<<32 | uint64(n.slot), n.stamped}
 }
 
-type setsPointer struct{ at pointer }
-
-func (p *setsPointer) Load() []waySet    { return *(*[]waySet)(atomic.LoadPointer(&p.at)) }
-func (p *setsPointer) Store(to []waySet) { atomic.StorePointer(&p.at, pointer(&to)) }
-
-type waySet struct {
-	mu     sync.Mutex
-	closed bool // whether nothing is kept in it any more
-	// By way: a part of the hash, so that a look reads no item of another key, and a bit; or 0.
-	tags   [waysOfSet]uint32
-	ghosts [ghostsOfSet]uint32 // the tags of those that left last
-	_      [12]byte            // the items have a cache line of their own
-	items  [waysOfSet]pointer
+// isStamped gives the node its stamp, if there is room for it: a group has fewer than 2^32 slots. The node
+// is not in a table yet.
+func (n *node[K, V]) isStamped(stamp Stamp) bool {
+	n.flags = n.flags&^flagTable | uint32(stamp.Place>>32)&flagTable
+	n.slot, n.stamped = uint32(stamp.Place), stamp.Age
+	return n.stamp() == stamp
 }
 
-const (
-	// Two ways for each value leave few sets full.
-	waysOfValue = 2
-	// Of a cache whose values have costs, nobody knows how many there will be.
-	waysAtFirst = 1 << 13
-	mostSets    = 1 << 20
-	// Another key's Forget ends a value's stamp with a chance of one in the number of slots. With
-	// so many slots for each value that costs little.
-	slotsOfValue = 16
-	mostSlots    = 1 << 22
-)
-
-// How many sets of ways a cache with this limit begins with: a power of two.
-func setsFor(limit int64, hasCosts bool) int {
-	ways := int64(waysAtFirst)
-	if most := waysOfValue * limit; !hasCosts || limit < ways && most < ways {
-		ways = most
-		if limit <= 1024 {
-			// Those of a small one are seldom full.
-			ways = 2 * most
+// set sets these flags to these of them, and returns what all were.
+func (n *node[K, V]) set(flags, to uint32) (was uint32) {
+	for {
+		was = atomic.LoadUint32(&n.flags)
+		if atomic.CompareAndSwapUint32(&n.flags, was, was&^flags|to) {
+			return was
 		}
 	}
-	sets := 1
-	for int64(sets)*waysOfSet < ways && sets < mostSets {
-		sets *= 2
-	}
-	return sets
 }
 
-// How many slots of stamps.
+// claim makes the caller the one that refreshes the node, unless there is one.
+func (n *node[K, V]) claim() bool { return n.set(flagRefresh, flagRefresh)&flagRefresh == 0 }
+
+func (n *node[K, V]) isClaimed() bool { return atomic.LoadUint32(&n.flags)&flagRefresh != 0 }
+
+func (n *node[K, V]) release() { n.set(flagRefresh, 0) }
+
+func (n *node[K, V]) queue() int {
+	return int(atomic.LoadUint32(&n.flags) & flagQueue / (flagQueue / 3))
+}
+
+// left returns why the node has left a table, if it has.
+func (n *node[K, V]) left() (reason Reason, hasLeft bool) {
+	is := atomic.LoadUint32(&n.flags) & flagReason
+	return Reason(is - 1), is > 0
+}
+
+// record returns the record of the node's call, if there is one.
+func (n *node[K, V]) record() *callRecord {
+	if e := n.extras; e != nil && e.rare != nil {
+		return e.rare.rec
+	}
+	return nil
+}
+
+func (n *node[K, V]) isError() bool { return n.extras.failed() != nil }
+
+// result returns what a Get of it returns.
+func (n *node[K, V]) result() (V, error) { return n.value, n.extras.failed() }
+
+// mark notes that it was found. One that is found often has its most, and nothing is written. Where
+// another goroutine changes the flags meanwhile, a mark is lost.
+func (n *node[K, V]) mark() {
+	if was := atomic.LoadUint32(&n.flags); was&flagMarks != flagMarks {
+		atomic.CompareAndSwapUint32(&n.flags, was, was+flagMark)
+	}
+}
+
+// marks returns how many marks the node has: mostMarks at most.
+func (n *node[K, V]) marks() uint32 { return atomic.LoadUint32(&n.flags) & flagMarks / flagMark }
+
+// What the values of a cache cost together, over all its tables, and what there is of a cache that its
+// tables ask for.
+type room struct {
+	limit  atomic.Int64
+	turn   atomic.Uint32   // which shard makes room for another next
+	weight atomic.Int64    // what is kept, and about to be; within the limit
+	begun  []atomic.Uint64 // by class: how many Forgets and Puts have begun, and where values have costs, loads
+	counts []counts
+	tags   tags
+	lives  lifetimes
+	era    extrasPointer // the latest; see eraOf
+	tells  bool          // whether there is a function of WithOnEvict
+}
+
+// The hash of a key chooses the bucket by its lowest bits, the class by those from classBit on, and the
+// shard by those from shardBit on.
+const (
+	classBit = 8
+	shardBit = 24
+)
+
+// begunOf returns the count of the class that has the key of this hash.
+func (r *room) begunOf(print uint32) *atomic.Uint64 {
+	return &r.begun[print>>classBit&uint32(len(r.begun)-1)]
+}
+
+// Keys are of so many classes: a Put is not kept if another Forget of its class has begun.
+const (
+	fewestClasses = 64
+	mostClasses   = 1 << 10
+)
+
+// A values holds the values of a cache that were loaded by the calls of one core: a hash table in
+// shards. That a value is still current is asked at each look; the rest is tested and not proved.
+//
+// A look takes no lock, and writes to nothing that others read but a node's marks, if it has not all.
+// Whoever changes a shard has its lock. A shard that grows moves its nodes into new chains, beside
+// looks: these may miss a node then, and look again under the lock.
+type values[K comparable, V any] struct {
+	p      *core
+	room   *room
+	shards []valueShard[K, V]
+}
+
+type valueShard[K comparable, V any] struct {
+	index   indexPointer  // the first node of each bucket
+	version atomic.Uint32 // odd while nodes move
+	mu      sync.Mutex    // protects the rest, and what is written above
+	closed  bool          // whether nothing is kept in it any more
+	nodes   int           // how many it has
+	weight  int64         // what they cost
+	queues  [2]queue[K, V]
+	ghosts  ghosts
+	passes  uint64   // how many nodes evictions have come to
+	_       [72]byte // to whole cache lines
+}
+
+func (s *valueShard[K, V]) queue(number int) *queue[K, V] { return &s.queues[number-1] }
+
+type indexPointer struct{ at pointer }
+
+func (p *indexPointer) Load() []pointer    { return *(*[]pointer)(atomic.LoadPointer(&p.at)) }
+func (p *indexPointer) Store(to []pointer) { atomic.StorePointer(&p.at, pointer(&to)) }
+
+const (
+	// A shard has so many values at least, by the limit, so that what makes room is chosen among many.
+	leastOfShard    = 64
+	mostCacheShards = 64
+	bucketsAtFirst  = 4
+	// Of a cache whose values have costs, nobody knows how many there will be. It begins with room
+	// for so many.
+	valuesAtFirst = 1 << 12
+	// Another key's Forget ends a value's stamp with a chance of one in the number of slots. Plain Go
+	// has one for each value, and the library one for two: see cells.
+	mostSlots = 1 << 22
+)
+
+// valuesFor returns how many values a cache with this limit is made for.
+func valuesFor(limit int64, hasCosts bool) int64 {
+	if hasCosts && limit > valuesAtFirst {
+		return valuesAtFirst
+	}
+	return limit
+}
+
+// slotsFor returns how many slots of stamps it has.
 func slotsFor(limit int64, hasCosts bool) uint64 {
-	n := int64(setsFor(limit, hasCosts)) * waysOfSet / waysOfValue * slotsOfValue
+	n := valuesFor(limit, hasCosts)
 	if n > mostSlots {
 		n = mostSlots
 	}
 	return uint64(n)
 }
 
-func newValues(p *core, room *room) *values {
-	t := &values{p: p, seed: maphash.MakeSeed(), room: room}
-	sets := setsFor(room.limit, room.hasCosts)
-	t.sets.Store(make([]waySet, sets))
-	t.isFixed = !room.hasCosts || sets >= mostSets
-	return t
-}
-
-// A key with a hash of it.
-type keyed struct {
-	key   string
-	print uint64
-}
-
-func (t *values) keyed(key string) keyed { return keyed{key, hash(t.seed, key)} }
-
-func (t *values) set(print uint64) *waySet {
-	sets := t.sets.Load()
-	return &sets[print&uint64(len(sets)-1)]
-}
-
-func tagOf(print uint64) uint32 { return uint32(print>>32) | isThere }
-
-func (set *waySet) item(way int) *item { return (*item)(atomic.LoadPointer(&set.items[way])) }
-
-// find returns the key's item and its way, whether current or not.
-func (set *waySet) find(k keyed) (*item, int) {
-	tag := tagOf(k.print)
-	for way := range set.tags {
-		if atomic.LoadUint32(&set.tags[way]) == tag {
-			if it := set.item(way); it != nil && it.print == k.print && it.key == k.key {
-				return it, way
-			}
-		}
+// powerFor returns the largest power of two up to n, within these bounds.
+func powerFor(n int64, least, most int) int {
+	power := least
+	for power < most && int64(power)*2 <= n {
+		power *= 2
 	}
-	return nil, 0
+	return power
 }
 
-// put stores the item into the way, in the place of another, or of none. The lock is held.
-func (t *values) put(set *waySet, way int, it *item) (old *item) {
-	tag := tagOf(it.print)
-	fresh := true
-	for _, ghost := range set.ghosts {
-		if ghost == tag {
-			fresh = false
-		}
+func (t *values[K, V]) open(p *core, room *room, shards int) {
+	t.p, t.room = p, room
+	t.shards = make([]valueShard[K, V], shards)
+	for i := range t.shards {
+		t.shards[i].index.Store(make([]pointer, bucketsAtFirst))
 	}
-	if old = set.item(way); old != nil {
-		if old.key == it.key {
-			fresh = false
-		}
-		t.empty(set, way, old)
-	}
-	t.room.kept.Add(1)
-	atomic.StorePointer(&set.items[way], pointer(it))
-	atomic.StoreUint32(&set.tags[way], tag)
-	t.clock.add(it, fresh)
-	return old
 }
 
-// empty takes the item out of the way. The lock is held.
-func (t *values) empty(set *waySet, way int, it *item) {
-	t.clock.remove(it)
-	copy(set.ghosts[1:], set.ghosts[:])
-	set.ghosts[0] = tagOf(it.print)
-	atomic.StorePointer(&set.items[way], nil)
-	atomic.StoreUint32(&set.tags[way], 0)
-	t.room.left.Add(1)
+func (t *values[K, V]) shard(print uint32) *valueShard[K, V] {
+	return &t.shards[print>>shardBit&uint32(len(t.shards)-1)]
 }
 
-// lock returns the set of the hash, whose lock it takes.
-func (t *values) lock(print uint64) *waySet {
+func (t *values[K, V]) lock(print uint32) *valueShard[K, V] {
+	s := t.shard(print)
+	acquire(&s.mu)
+	return s
+}
+
+func (s *valueShard[K, V]) first(index []pointer, print uint32) *pointer {
+	return &index[print&uint32(len(index)-1)]
+}
+
+// find returns the key's node, whether current or not.
+func (s *valueShard[K, V]) find(key K, print uint32) *node[K, V] {
+	at := s.first(s.index.Load(), print)
 	for {
-		set := t.set(print)
-		acquire(&set.mu)
-		if set == t.set(print) {
-			return set
+		n := (*node[K, V])(atomic.LoadPointer(at))
+		if n == nil || n.print == print && n.key == key {
+			return n
 		}
-		// There are more now.
-		set.mu.Unlock()
+		at = &n.chain
 	}
 }
 
-// drop takes the item out, if it is in.
-func (t *values) drop(it *item) bool {
-	set := t.lock(it.print)
-	for way := range set.items {
-		if set.item(way) == it {
-			t.empty(set, way, it)
-			set.mu.Unlock()
-			t.room.weight.Add(-it.cost)
-			return true
-		}
+// find returns the key's node, whether current or not, as it is in its shard.
+func (t *values[K, V]) find(key K, print uint32) *node[K, V] {
+	s := t.shard(print)
+	version := s.version.Load()
+	n := s.find(key, print)
+	if n == nil && (version&1 != 0 || version != s.version.Load()) {
+		// Nodes have moved meanwhile.
+		acquire(&s.mu)
+		n = s.find(key, print)
+		s.mu.Unlock()
 	}
-	set.mu.Unlock()
-	return false
+	return n
 }
 
-// look returns the key's item, if its call is current and it is not too old by the clock. One that
-// is not leaves, and is returned as gone.
-func (t *values) look(k keyed, clock func() instant) (it, gone *item) {
-	it, _ = t.set(k.print).find(k)
-	if it == nil {
-		return nil, nil
-	}
+// isCurrent tells whether the node's value may be used: no Forget of its key, and none of its tags,
+// has returned since its load began. Of the key the library says so.
+func (t *values[K, V]) isCurrent(n *node[K, V]) bool {
 	point(beforeLook)
-	if !t.p.table.isStill(it.stamp) || clock != nil && it.isOld(clock(), t.room.ttl) {
-		if t.drop(it) {
-			return nil, it
-		}
-		return nil, nil
-	}
-	if atomic.LoadUint32(&it.used) == 0 {
-		atomic.StoreUint32(&it.used, 1)
-	}
-	return it, nil
+	return t.p.table.isStill(n.stamp()) && t.room.tags.areCurrent(n.extras)
 }
 
-// current returns the key's item as look does, and takes none out.
-func (t *values) current(k keyed, clock func() instant) *item {
-	it, _ := t.set(k.print).find(k)
-	if it == nil || !t.p.table.isStill(it.stamp) || clock != nil && it.isOld(clock(), t.room.ttl) {
-		return nil
+// A state is what a look finds of a node.
+type state uint8
+
+const (
+	isNothing state = iota
+	isForgotten
+	isExpired
+	isStale // it may stand in for an error
+	isFresh
+	isDue // fresh, and to be refreshed
+)
+
+// stateOf returns the node's state, and its age by the steady clock where it has a life.
+func (t *values[K, V]) stateOf(n *node[K, V], isCurrent bool) (is state, steady time.Duration) {
+	if !isCurrent {
+		return isForgotten, 0
 	}
-	return it
+	if !n.hasLife() {
+		return isFresh, 0
+	}
+	l := &t.room.lives
+	age, steady := n.age(l.clock())
+	switch past := n.past(age, l); {
+	case past >= l.stale, past >= 0 && n.isError():
+		return isExpired, steady
+	case past >= 0:
+		return isStale, steady
+	case l.refresh > 0 && age >= l.refresh && !n.isError():
+		return isDue, steady
+	}
+	return isFresh, steady
 }
 
-// takeOut takes the key's item out, unless its call is current: that was then loaded after the
-// Forget which asks for this.
-func (t *values) takeOut(k keyed) *item {
-	it, _ := t.set(k.print).find(k)
-	if it == nil || t.p.table.isStill(it.stamp) || !t.drop(it) {
-		return nil
-	}
-	return it
-}
-
-// keep puts the item of a call that has this stamp into the table, if the call is current. It
-// returns what left for that.
+// look returns the key's node if it is fresh, and whether it is due. One that cannot be used any more
+// leaves, and is returned as gone.
 //
-// It comes before the call is settled. Calls of a key follow one another until then, so the item of
-// a later call comes later: answers do not go back, however slow the leader is.
-//
-// It asks whether the call is current with the set's lock: so one that a Forget has closed does not take
-// the place of a later one. And it asks again when the item is in its way: a Forget first ends the
-// stamp, and then takes the item out. So either that finds the item, or this sees that the stamp has
-// ended.
-func (t *values) keep(it *item, stamp Stamp) (out []*item) {
-	if it.cost < 0 || it.cost > t.room.limit || !t.p.table.isStill(stamp) {
+// A look that is recorded holds the record of a node that it returns.
+func (t *values[K, V]) look(key K, print uint32, w watch) (n *node[K, V], isToRefresh bool, gone *node[K, V]) {
+	n = t.find(key, print)
+	if n == nil {
+		return nil, false, nil
+	}
+	if w.by != nil && !w.holds(n.record()) {
+		// It has left since.
+		return t.look(key, print, w)
+	}
+	is, steady := t.stateOf(n, t.isCurrent(n))
+	if w.by != nil && is < isFresh {
+		w.drops(n.record())
+	}
+	switch is {
+	case isForgotten:
+		return nil, false, t.drop(n, ReasonForgotten)
+	case isExpired:
+		return nil, false, t.drop(n, ReasonExpired)
+	case isStale:
+		return nil, false, nil
+	}
+	n.mark()
+	if t.room.lives.idle > 0 {
+		n.meet(steady, &t.room.lives)
+	}
+	return n, is == isDue, nil
+}
+
+// current returns the key's node if it is fresh, and takes none out.
+func (t *values[K, V]) current(key K, print uint32) *node[K, V] {
+	if n := t.find(key, print); n != nil && t.isAtLeast(n, isFresh) {
+		return n
+	}
+	return nil
+}
+
+func (t *values[K, V]) isAtLeast(n *node[K, V], least state) bool {
+	is, _ := t.stateOf(n, t.isCurrent(n))
+	return is >= least
+}
+
+// standIn returns the key's value that is to be returned in place of a load's error, if there is one.
+func (t *values[K, V]) standIn(key K, print uint32) *node[K, V] {
+	if n := t.find(key, print); n != nil && !n.isError() && t.isAtLeast(n, isStale) {
+		return n
+	}
+	return nil
+}
+
+// drop takes the node out, if it is in, and returns it then.
+func (t *values[K, V]) drop(n *node[K, V], reason Reason) *node[K, V] {
+	s := t.lock(n.print)
+	defer s.mu.Unlock()
+	if n.queue() == queueNone {
 		return nil
 	}
-	it.stamp = stamp
-	if !t.reserve(it.cost, &out) {
-		return out
+	t.remove(s, n, reason)
+	t.room.weight.Add(-n.cost())
+	return n
+}
+
+// takeOut takes the key's node out, unless its call is current: that was then loaded after the Forget
+// which asks for this. It takes the lock to look, so that it comes before a keep, or after it.
+func (t *values[K, V]) takeOut(key K, print uint32) *node[K, V] {
+	s := t.lock(print)
+	defer s.mu.Unlock()
+	n := s.find(key, print)
+	if n == nil || t.p.table.isStill(n.stamp()) {
+		return nil
+	}
+	t.remove(s, n, ReasonForgotten)
+	t.room.weight.Add(-n.cost())
+	return n
+}
+
+// keep puts the node of a call that has this stamp into the table, if the call is current. It returns
+// what left for that.
+//
+// It comes before the call is settled. Calls of a key follow one another until then, so the node of a
+// later call comes later: answers do not go back, however slow the leader is.
+//
+// It asks whether the call is current with the shard's lock. So one that a Forget has closed does not
+// take the place of a later one. A Forget first ends the stamp, and then takes the node out with the
+// lock. So either it comes to the lock first, and this sees that the stamp has ended; or it finds the
+// node.
+func (t *values[K, V]) keep(n *node[K, V], stamp Stamp) (kept bool, out []*node[K, V]) {
+	if !n.isStamped(stamp) {
+		return false, nil
 	}
 	point(beforeKeep)
-	set := t.lock(it.print)
-	if set.closed || !t.p.table.isStill(stamp) {
-		set.mu.Unlock()
-		t.room.weight.Add(-it.cost)
-		return out
+	for try := 0; ; try++ {
+		s := t.lock(n.print)
+		if s.closed || !t.p.table.isStill(stamp) || !t.room.tags.areCurrent(n.extras) {
+			s.mu.Unlock()
+			return false, out
+		}
+		kept, isOver := t.put(s, n, try, &out)
+		s.mu.Unlock()
+		point(afterKeep)
+		if isOver || try == mostTries {
+			return kept, out
+		}
+		t.makeRoom(n.cost(), s, &out)
 	}
-	way, crowded := t.wayFor(set, it)
-	old := t.put(set, way, it)
-	set.mu.Unlock()
-	if old != nil {
-		t.room.weight.Add(-old.cost)
-		out = append(out, old)
-		if old.key != it.key {
-			t.room.evicted.Add(1)
+}
+
+// A keep makes room so often in the shards of others, who may take it.
+const mostTries = 16
+
+// put puts the node in the place of the key's other one, or of none. It is over if that has come to
+// something, and not if there was no room. The lock is held.
+func (t *values[K, V]) put(s *valueShard[K, V], n *node[K, V], try int, out *[]*node[K, V]) (kept, isOver bool) {
+	freed, queue := int64(0), queueSmall
+	if old := s.find(n.key, n.print); old != nil {
+		// Its marks may be written to meanwhile: one may be lost.
+		queue, freed = old.queue(), old.cost()
+		n.flags = n.flags&^flagMarks | old.marks()*flagMark
+		t.remove(s, old, ReasonReplaced)
+		t.leaves(old, out)
+	} else if s.ghosts.has(n.print) {
+		queue = queueMain
+	}
+	cost := n.cost()
+	if cost < 0 || cost > t.room.limit.Load() {
+		t.room.weight.Add(-freed)
+		return false, true
+	}
+	if !t.reserve(s, cost, freed, try, out) {
+		return false, false
+	}
+	t.insert(s, n, queue)
+	return true, true
+}
+
+// leaves adds a node to those that are told of, if anybody is told.
+func (t *values[K, V]) leaves(n *node[K, V], out *[]*node[K, V]) {
+	if t.room.tells {
+		*out = append(*out, n)
+	}
+}
+
+// insert puts a node in, of a key that has none. The lock is held.
+func (t *values[K, V]) insert(s *valueShard[K, V], n *node[K, V], queue int) {
+	index := s.index.Load()
+	if s.nodes >= len(index) {
+		index = s.grow(index)
+	}
+	s.nodes++
+	s.weight += n.cost()
+	s.queue(queue).append(n, queue)
+	if c := t.countsOf(n.print); !n.isError() {
+		c.kept.Add(1)
+	}
+	if rec := n.record(); rec != nil {
+		rec.kept()
+	}
+	first := s.first(index, n.print)
+	n.chain = *first
+	atomic.StorePointer(first, pointer(n))
+}
+
+// remove takes a node out that is in. The lock is held.
+func (t *values[K, V]) remove(s *valueShard[K, V], n *node[K, V], reason Reason) {
+	at := s.first(s.index.Load(), n.print)
+	for *at != pointer(n) {
+		at = &(*node[K, V])(*at).chain
+	}
+	// A look that is at the node goes on to those after it.
+	atomic.StorePointer(at, n.chain)
+	s.queue(n.queue()).remove(n)
+	s.nodes--
+	s.weight -= n.cost()
+	n.set(flagReason, uint32(reason)+1)
+	if !n.isError() {
+		t.countsOf(n.print).left[reason].Add(1)
+	}
+	if rec := n.record(); rec != nil {
+		rec.left(reason)
+	}
+}
+
+// grow gives the shard twice as many buckets. The lock is held. A look that follows a chain may come
+// to another one, since a node has one successor. It finds nothing wrong there, and ends: each node
+// leads to nodes that have moved before it, or to those that have not.
+func (s *valueShard[K, V]) grow(old []pointer) []pointer {
+	index := make([]pointer, 2*len(old))
+	s.version.Add(1)
+	for i := range old {
+		for n := (*node[K, V])(old[i]); n != nil; {
+			next := (*node[K, V])(n.chain)
+			first := s.first(index, n.print)
+			atomic.StorePointer(&n.chain, *first)
+			*first = pointer(n)
+			n = next
+			point(beforeLook)
 		}
 	}
-	point(afterKeep)
-	if !t.p.table.isStill(stamp) {
-		if t.drop(it) {
-			out = append(out, it)
+	s.index.Store(index)
+	s.version.Add(1)
+	return index
+}
+
+// close takes all nodes out, and nothing is kept in the table any more.
+func (t *values[K, V]) close(reason Reason) (out []*node[K, V]) {
+	for i := range t.shards {
+		s := &t.shards[i]
+		acquire(&s.mu)
+		s.closed = true
+		for _, queue := range []*queue[K, V]{s.queue(queueSmall), s.queue(queueMain)} {
+			for n := queue.head; n != nil; n = queue.head {
+				t.remove(s, n, reason)
+				t.room.weight.Add(-n.cost())
+				t.leaves(n, &out)
+			}
 		}
-		return out
-	}
-	atomic.StoreUint32(&it.state, isKept)
-	if crowded && t.isCrowded() {
-		t.widen()
+		s.index.Store(make([]pointer, 1))
+		s.ghosts.rows = nil
+		s.mu.Unlock()
 	}
 	return out
 }
 
-// widen has more sets, into which the items go. Meanwhile nothing is kept. A look that began
-// before may still find an item in its old set, and asks whether it is current as always.
-func (t *values) widen() {
-	if t.isFixed || !t.mu.TryLock() {
-		return
-	}
-	defer t.mu.Unlock()
-	old := t.sets.Load()
-	if 8*len(old) > mostSets {
-		return
-	}
-	sets := make([]waySet, 8*len(old))
-	for i := range old {
-		set := &old[i]
-		acquire(&set.mu)
-		if set.closed {
-			// The table is closed, all of it.
-			set.mu.Unlock()
-			return
-		}
-		for way := range set.items {
-			if it := set.item(way); it != nil {
-				t.move(&sets[it.print&uint64(len(sets)-1)], it)
-			}
+// nodesOf returns the nodes that a shard has now.
+func (t *values[K, V]) nodesOf(s *valueShard[K, V]) (all []*node[K, V]) {
+	acquire(&s.mu)
+	defer s.mu.Unlock()
+	for i := range s.queues {
+		for n := s.queues[i].head; n != nil; n = n.after {
+			all = append(all, n)
 		}
 	}
-	t.sets.Store(sets)
-	t.crowded.Store(0)
-	for i := range old {
-		old[i].mu.Unlock()
-	}
+	return all
 }
 
-// move puts the item into an empty way of a set that nobody else has yet. There is one: all items of
-// the set were in one set before.
-func (t *values) move(set *waySet, it *item) {
-	for way := range set.items {
-		if set.items[way] == nil {
-			set.items[way], set.tags[way] = pointer(it), tagOf(it.print)
-			return
-		}
-	}
-}
-
-// Whether values leave for want of a way while there is room for them, and not now and then.
-func (t *values) isCrowded() bool {
-	if t.room.weight.Load() > t.room.limit/4*3 {
-		return false
-	}
-	crowded := t.crowded.Add(1)
-	return crowded > uint64(len(t.sets.Load()))*waysOfSet/16 && crowded > t.room.values()/4
-}
-
-// close takes all items out, and nothing is kept in the table any more.
-func (t *values) close() (out []*item) {
-	acquire(&t.mu)
-	defer t.mu.Unlock()
-	sets := t.sets.Load()
-	for i := range sets {
-		set := &sets[i]
-		acquire(&set.mu)
-		set.closed = true
-		for way := range set.items {
-			if it := set.item(way); it != nil {
-				t.empty(set, way, it)
-				t.room.weight.Add(-it.cost)
-				out = append(out, it)
-			}
-		}
-		set.mu.Unlock()
-	}
-	return out
-}
-
-// all returns the items of one at rest.
-func (t *values) all() (all []*item) {
-	sets := t.sets.Load()
-	for i := range sets {
-		for way := range sets[i].items {
-			if it := sets[i].item(way); it != nil {
-				all = append(all, it)
-			}
-		}
+// all returns the nodes of the table.
+func (t *values[K, V]) all() (all []*node[K, V]) {
+	for i := range t.shards {
+		all = append(all, t.nodesOf(&t.shards[i])...)
 	}
 	return all
 }

@@ -4,6 +4,7 @@ import (
 	"context"
 	"sync"
 	"sync/atomic"
+	"time"
 )
 
 // A core is what an Of and a Cache do their calls by. The table says which caller leads a call, which ones
@@ -15,8 +16,8 @@ type core struct {
 	onPanic  func(value any, stack []byte)
 	recorder recorderPointer
 	// Of recordings.
-	recording  sync.Mutex
-	recordings uint16
+	recording sync.Mutex
+	ledger    atomic.Pointer[ledger] // of a cache's core that is recorded
 }
 
 // A place in the code where tests stop a goroutine.
@@ -52,13 +53,14 @@ type call struct {
 	done    chan struct{} // closed when got is there; made by the first who joins
 	rec     atomic.Pointer[callRecord]
 
-	mu     sync.Mutex         // protects the rest
-	ready  bool               // whether got is there; nothing changes then
-	waits  bool               // whether a leader waits for it that may leave
-	cancel context.CancelFunc // tells the load to end; of such a leader, also when it has left
-	ended  bool               // whether that was called, since nobody waited
-	told   []func()           // to be called when got is there
-	got    Result
+	mu       sync.Mutex         // protects the rest
+	ready    bool               // whether got is there; nothing changes then
+	waits    bool               // whether a leader waits for it that may leave
+	isBehind bool               // whether no leader ever waits for it: see doBehind
+	cancel   context.CancelFunc // tells the load to end; of such a leader, also when it has left
+	ended    bool               // whether that was called, since nobody waited
+	told     []func()           // to be called when got is there
+	got      Result
 }
 
 // Which call of the group: see sflight_id in sflight.h. None has the generation 0.
@@ -88,10 +90,14 @@ type asking struct {
 	own   flight // what the table knows of it
 	call  *call  // in the library's table none of a leader, unless it has to share something
 	leads bool
-	by    *recorder     // none where it is not recorded
-	from  int64         // when it began, where it is recorded
-	over  chan struct{} // of a leader that waits for a run in another goroutine; closed when that has ended
-	after func()        // to be called when all have the result
+	// Whether it does neither, since the key's call has as many holders as can be counted.
+	isCrowded bool
+	stop      <-chan struct{} // closed when it is not to wait any more until one of them leaves
+	by        *recorder       // none where it is not recorded
+	from      int64           // when it began, where it is recorded
+	held      *callRecord     // of a cache's joiner: that of the value which it got
+	over      chan struct{}   // of a leader that waits for a run in another goroutine; closed when that has ended
+	after     func()          // to be called when all have the result
 }
 
 // An audience is what a leader learns as it settles: the callers that are to be told.
@@ -111,9 +117,38 @@ const (
 	left                   // by leaving
 )
 
-// asks begins an asking: it leads the key's new call, or has joined its open one.
+// asks begins an asking: it leads the key's new call, or has joined its open one. Where that is crowded, it waits until it is
+// not, or until the caller's end.
 func (p *core) asks(a *asking) {
+	for p.asksOnce(a); a.isCrowded && nap(a.stop); p.asksOnce(a) {
+	}
+}
+
+// Where an asking has this to stop it, it does not wait for a call that is crowded.
+var ended = func() <-chan struct{} {
+	c := make(chan struct{})
+	close(c)
+	return c
+}()
+
+// nap waits a while, but not after stop is closed. It tells whether it is open still.
+func nap(stop <-chan struct{}) bool {
+	timer := time.NewTimer(time.Millisecond)
+	defer timer.Stop()
+	select {
+	case <-stop:
+		return false
+	case <-timer.C:
+		return true
+	}
+}
+
+func (p *core) asksOnce(a *asking) {
 	a.by = p.recorder.Load()
+	if a.by != nil && a.by.isOfCache {
+		p.ledger.Load().asks(p, a)
+		return
+	}
 	a.from = a.by.now()
 	point(beforeAsk)
 	p.table.ask(a)
@@ -135,7 +170,9 @@ func (a *asking) record() *callRecord {
 // ends settles the call that was led, tells those who have joined, and completes the result.
 func (p *core) ends(r *Result, a *asking) {
 	rec := a.record()
-	if rec != nil {
+	if rec != nil && rec.value != nil {
+		rec.loaded(r.Err)
+	} else if rec != nil {
 		rec.settles, rec.err = now(), r.Err
 	}
 	point(beforeSettle)
@@ -148,7 +185,9 @@ func (p *core) ends(r *Result, a *asking) {
 	if !to.isTold {
 		return
 	}
-	if rec != nil {
+	if rec != nil && rec.value != nil {
+		rec.wasForgotten(to.forgotten)
+	} else if rec != nil {
 		rec.settled = now()
 		if to.forgotten {
 			rec.by.awaits(rec, a.id)
@@ -163,7 +202,7 @@ func (p *core) tell(r *Result, a *asking) {
 	c := a.call
 	acquire(&c.mu)
 	c.got, c.ready = *r, true
-	isLost := c.cancel != nil && !c.waits && c.holders.Load() == 1
+	isLost := (c.cancel != nil || c.isBehind) && !c.waits && c.holders.Load() == 1
 	done, told := c.done, c.told
 	c.told = nil
 	c.mu.Unlock()
@@ -181,9 +220,12 @@ func (p *core) tell(r *Result, a *asking) {
 
 // leaves lets go of a call.
 func (p *core) leaves(a *asking, hasEnded bool) {
-	rec := a.call.rec.Load()
 	point(beforeLeave)
-	if p.table.leave(a, hasEnded) && rec != nil {
+	if !p.table.leave(a, hasEnded) {
+		return
+	}
+	// The last reads the record: when a joiner gives up, the leader may not have attached it yet.
+	if rec := a.call.rec.Load(); rec != nil {
 		rec.part()
 	}
 }
@@ -205,6 +247,7 @@ func (p *core) takes(r *Result, a *asking) outcome {
 	how := again
 	if err := c.got.Err; err != errAgain && (err == nil || !c.ended) {
 		*r, how = c.got, settled
+		a.holds()
 	}
 	a.enter()
 	p.leaves(a, true)
@@ -253,6 +296,10 @@ func (c *call) whenTold(tell func()) {
 
 func (p *core) forgets(key string) {
 	by := p.recorder.Load()
+	if by != nil && by.isOfCache {
+		p.ledger.Load().forgets(p, key)
+		return
+	}
 	from := by.now()
 	point(beforeForget)
 	id, closed := p.table.forget(key)

@@ -6,8 +6,8 @@
 
 // Calls of the library on the stack of the handle. So they take nothing of the goroutine's stack, and nothing is told to the scheduler: a call
 // is no more than a call. While it runs, the goroutine is not stopped, since the program counter is not in Go code; the collector and
-// who wants the processor wait for it. A traceback by a signal ends here, since SP is written, or in the library. Signals have a stack
-// of their own. C code leaves BX as it was.
+// a goroutine that wants the processor wait for it. A traceback by a signal ends here, since SP is written, or in the library. Signals
+// have a stack of their own. C code leaves BX as it was.
 
 #define CALLC(fn) \
 	MOVQ SP, BX; \

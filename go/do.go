@@ -47,8 +47,8 @@ func (p *core) lead(r *Result, a *asking, fn func() (any, error)) {
 	if p.record != nil {
 		begun = now()
 	}
-	if rec := a.record(); rec != nil {
-		rec.ran, rec.led = true, now()
+	if rec := a.record(); rec != nil && rec.value == nil {
+		rec.begins()
 	}
 	defer func() {
 		if !returned {
@@ -122,12 +122,12 @@ func (detached) Err() error                  { return nil }
 
 type loadFunc = func(context.Context, *asking) (any, error)
 
-// doContext is Do for a caller that waits no longer than its context.
-func (p *core) doContext(ctx context.Context, key string, fn loadFunc) (Result, error) {
+// doContext is Do for a caller that waits no longer than its context. If the context never ends, nobody has the asking when it returns.
+func (p *core) doContext(ctx context.Context, a *asking, fn loadFunc) (Result, error) {
 	if err := ctx.Err(); err != nil {
 		return Result{}, err
 	}
-	a := &asking{key: key}
+	a.stop = ctx.Done()
 	p.asks(a)
 	return p.goOn(ctx, a, fn)
 }
@@ -135,6 +135,9 @@ func (p *core) doContext(ctx context.Context, key string, fn loadFunc) (Result, 
 // goOn goes on with an asking until there is a result, or the context ends.
 func (p *core) goOn(ctx context.Context, a *asking, fn loadFunc) (r Result, err error) {
 	for !a.leads {
+		if a.isCrowded {
+			return r, ctx.Err()
+		}
 		switch p.joins(&r, a, ctx.Done()) {
 		case settled:
 			end(r.Err)
@@ -175,10 +178,35 @@ func (p *core) leadContext(ctx context.Context, a *asking, fn loadFunc) (Result,
 	return c.got, c.got.Err
 }
 
+// doBehind is Do for nobody: it runs fn in this goroutine, unless the key has an open call. A panic of fn is told as one that
+// nobody waits for, unless somebody has joined.
+func (p *core) doBehind(ctx context.Context, key string, fn loadFunc) {
+	a := &asking{key: key, stop: ended}
+	p.asks(a)
+	if !a.leads {
+		p.parts(a)
+		return
+	}
+	a.over = make(chan struct{})
+	p.table.share(a)
+	acquire(&a.call.mu)
+	a.call.isBehind = true
+	a.call.mu.Unlock()
+	p.lead(new(Result), a, func() (any, error) { return fn(ctx, a) })
+}
+
+// parts lets go of a call that was joined, whose result nobody wants. One that was crowded was not joined.
+func (p *core) parts(a *asking) {
+	if a.call != nil && !p.gives(a) {
+		p.takes(new(Result), a)
+		a.enters(false)
+	}
+}
+
 // doChan is Do for a caller that does not wait: it has asked when this returns. What tell is called with is the result. As in
 // x/sync, a panic of the function ends the program, and one who joins needs no goroutine.
 func (p *core) doChan(ctx context.Context, key string, fn loadFunc, tell func(*Result, error)) {
-	a := &asking{key: key}
+	a := &asking{key: key, stop: ctx.Done()}
 	p.asks(a)
 	goOn := func() {
 		r, err := p.goOn(ctx, a, fn)

@@ -106,7 +106,7 @@ func ExampleGroup() {
 	fmt.Println(v, err, shared)
 	var r singleflight.Result = <-group.DoChan("ada", func() (any, error) { return 2, nil })
 	fmt.Println(r.Val, r.Err, r.Shared)
-	// The same calls with a context, and with a stamp.
+	// group.Of has the same calls with a context, and with a stamp.
 	got, err := group.Of.Do(context.Background(), "ada", func(context.Context) (any, error) {
 		return 3, nil
 	})

@@ -421,7 +421,7 @@ func TestPanicOfNil(t *testing.T) {
 	}
 }
 
-// A panic in a load with a goroutine of its own goes on in its leader and in who joined; so does a Goexit.
+// A panic in a load with a goroutine of its own goes on in its leader and in the caller that joined; so does a Goexit.
 func TestDoContextPanics(t *testing.T) {
 	for _, ends := range []func(){func() { panic("load") }, runtime.Goexit} {
 		g := open(t, 3)

@@ -8,6 +8,7 @@ import (
 	"os"
 	"os/exec"
 	"path/filepath"
+	"runtime"
 	"sort"
 	"strings"
 	"testing"
@@ -60,6 +61,16 @@ func readRecords(log []byte) (all []record, lost uint64, err error) {
 		all = append(all, it)
 	}
 	return all, lost, nil
+}
+
+// countOf returns how many of the events are of this kind.
+func countOf(all []record, kind string) (n uint64) {
+	for _, it := range all {
+		if it.E == kind {
+			n++
+		}
+	}
+	return n
 }
 
 // judge looks for events that no legal order in time has: what sfctl check --timed decides, by its
@@ -204,13 +215,13 @@ func judge(all []record) error {
 	return nil
 }
 
-// The program sfctl that SFLIGHT_SFCTL names, or the proved one of the repository if it is there.
+// The program sfctl that SFLIGHT_SFCTL names, or the proved one of the repository if it is there. That is for x86-64.
 func sfctl() string {
 	if it := os.Getenv("SFLIGHT_SFCTL"); it != "" {
 		return it
 	}
-	it := filepath.Join("..", "..", "crates", "sf_cli", "out", "sf_cli")
-	if _, err := os.Stat(it); err != nil {
+	it := filepath.Join("..", "crates", "sf_cli", "out", "sf_cli")
+	if _, err := os.Stat(it); err != nil || runtime.GOARCH != "amd64" {
 		return ""
 	}
 	return it

@@ -39,6 +39,13 @@ const (
 // So often a call tries before the goroutine may be stopped.
 const tries = 64
 
+const (
+	mostIdle     = 16  // idle calls that a handle keeps, so that most askings need not make one
+	sharingParts = 8   // parts of the calls that are shared, each with a lock
+	newPerLook   = 8   // calls new to a handle, of which one looks whether the group has to grow: see make
+	mostYields   = 100 // tries after which an asking sleeps between them
+)
+
 // The structs of sflight.h.
 type cCall struct {
 	at   uintptr
@@ -65,9 +72,9 @@ type handle struct {
 	live                        bool
 	made                        int // how many calls it has made, less those it has freed
 	frees                       int
-	free                        [16]cCall // idle ones
-	loads, ends, joins, forgets uint64    // which others read meanwhile
-	id                          callID    // what the library writes in a call
+	free                        [mostIdle]cCall
+	loads, ends, joins, forgets uint64 // which others read meanwhile
+	id                          callID // what the library writes in a call
 	told                        cAudience
 	value                       uint64
 	stack                       *[stackSize]byte
@@ -91,9 +98,9 @@ type nativeTable struct {
 	grower  *handle // which whoever grows has; made by the first who does
 	size    atomic.Uint64
 	isEnded atomic.Bool
-	_       [64]byte // each call reads what is above, and not all read what is below
+	_       [cacheLine]byte // each call reads what is above, and not all read what is below
 
-	sharing [8]sharing
+	sharing [sharingParts]sharing
 	growing sync.Mutex
 	calling sync.Mutex // of ForgetCalls
 	mu      sync.Mutex // protects the root, and the list of handles
@@ -109,16 +116,18 @@ type handles struct{ all []*handle }
 type sharing struct {
 	mu    sync.Mutex
 	calls map[callID]*call
-	_     [48]byte
+	_     [cacheLine - 16]byte
 }
 
-// A table has no more cells.
-const mostCells = 1 << 20
+const (
+	mostCells    = 1 << 20 // of a table
+	slotsOfCell  = 4       // slots of stamps that the library has for each, of 34 bytes
+	valuesOfSlot = 2       // values of a cache for which there is one slot of the library
+)
 
-// cells returns how many calls can be open at one time at first. The library has four slots of stamps for each: a cache has one for each of
-// its values.
+// cells returns how many calls can be open at one time at first.
 func (s *sizes) cells() uint64 {
-	n := s.slots / (4 * slotsOfValue)
+	n := s.slots / (slotsOfCell * valuesOfSlot)
 	if n < uint64(s.loads) {
 		n = uint64(s.loads)
 	}
@@ -224,13 +233,13 @@ func increment(at *uint64) {
 }
 
 // make makes a call, or none where there is no memory. It tells whether the group may have to grow. Looking takes the lock of all
-// handles, so each eighth call that is new to its handle looks: a group whose calls are used again never does.
+// handles, so one of newPerLook calls that are new to its handle looks: a group whose calls are used again never does.
 func (h *handle) make(c *cCall) (isDue bool) {
 	if cMake(h, c) != codeDone {
 		return false
 	}
 	h.made++
-	return h.made%8 == 0
+	return h.made%newPerLook == 0
 }
 
 // idle gives a call back, if there is one.
@@ -253,6 +262,7 @@ func (t *nativeTable) ask(a *asking) {
 		t.plain.ask(a)
 		return
 	}
+	a.isCrowded = false
 	for try := 1; ; try++ {
 		h := t.take()
 		seen, code, isDue := t.size.Load(), uint32(codeFull), false
@@ -277,28 +287,40 @@ func (t *nativeTable) ask(a *asking) {
 			h.idle(&a.own)
 		}
 		t.put(h)
-		switch {
-		case code == codeLed || code == codeJoined:
+		if code == codeLed || code == codeJoined {
 			if code == codeJoined {
 				t.share(a)
 				a.call.holders.Add(1)
 			}
-			// If only leaders looked, none would where each eighth call is a joiner's.
+			// If only leaders looked, none would where each call that is due is a joiner's.
 			if isDue {
 				t.look()
 			}
 			return
-		case code == codeFull && !t.grow(seen):
-			// There is no memory. It loads alone, and nobody can join it.
-			a.leads, a.asked = true, asked{stamp: Stamp{}.words()}
+		}
+		if t.hasAsked(a, code, seen, try) {
 			return
-		case code == codeCrowded, try > 100:
-			// Another makes room.
-			time.Sleep(time.Millisecond)
-		default:
-			runtime.Gosched()
 		}
 	}
+}
+
+// hasAsked tells whether an asking is over that has neither led nor joined by so many tries. If not, it waits until it is to try again.
+func (t *nativeTable) hasAsked(a *asking, code uint32, seen uint64, try int) bool {
+	switch {
+	case code == codeFull && !t.grow(seen):
+		// There is no memory. It loads alone, and nobody can join it.
+		a.leads, a.asked = true, asked{stamp: Stamp{}.words()}
+		return true
+	case code == codeCrowded:
+		a.isCrowded = true
+		return true
+	case try > mostYields:
+		// Another makes room.
+		time.Sleep(time.Millisecond)
+	default:
+		runtime.Gosched()
+	}
+	return false
 }
 
 // look lets the group grow when half of the cells of the last table are in use, or about so many, so that nobody finds it full.

@@ -5,8 +5,11 @@ package singleflight
 // The library's code, at which no Go code may point: calls_GOARCH.s knows where in it the calls below stand.
 func library()
 
+// The allocator's sixteen shards of 256 bytes, which begin at a multiple of 128: memory.c asserts that they fit.
+const libraryMemoryBytes = 16*256 + 128
+
 // The memory of the library's allocator, which begins anywhere in it: see memory.c.
-var libraryMemory [4224]byte
+var libraryMemory [libraryMemoryBytes]byte
 
 //go:noescape
 func cOpen(h *handle, cells, seed0, seed1 uint64) uint32

@@ -3,9 +3,11 @@
 package singleflight
 
 import (
+	"context"
 	"runtime"
 	"strconv"
 	"testing"
+	"time"
 )
 
 // A group grows while half of its cells are free, also where every other call joins.
@@ -168,3 +170,128 @@ func whenFreed(t *table, freed chan<- struct{}) {
 
 // tablesOf returns how many tables the library's group has.
 func tablesOf(t *table) uint64 { return t.size.Load() >> 32 }
+
+// crowds holds the key's open call as often as can be counted. What it returns lets go of it.
+func crowds(t *testing.T, p *core, key string) (leave func()) {
+	h := newHandle()
+	p.table.mu.Lock()
+	defer p.table.mu.Unlock()
+	if cSplit(p.table.root, h) != codeDone {
+		t.Fatal("no memory for a handle")
+	}
+	calls := make([]cCall, 0, 1<<20)
+	for {
+		var c cCall
+		var out cAsked
+		if cMake(h, &c) != codeDone {
+			t.Fatal("no memory for a call")
+		}
+		code := cAsk(h, &c, bytesOf(key), uintptr(len(key)), tries, &out)
+		if code == codeCrowded {
+			cFree(h, &c)
+			break
+		}
+		if code != codeJoined {
+			t.Fatal("it joins", code)
+		}
+		calls = append(calls, c)
+	}
+	return func() {
+		for i := range calls {
+			cLeave(h, &calls[i], &h.value)
+			cFree(h, &calls[i])
+		}
+		cClose(h)
+	}
+}
+
+// Where a call has as many holders as can be counted, a caller waits until one of them leaves, and no longer than its context.
+func TestCrowdedCall(t *testing.T) {
+	if isOld || testing.Short() {
+		t.Skip("it has no library, or it takes some 100 MB")
+	}
+	g := open(t, 4)
+	started, release := chans()
+	led := g.DoChan("key", heldAny(1, started, release))
+	begun(t, started)
+	leave := crowds(t, g.core(), "key")
+	ctx, cancel := context.WithTimeout(context.Background(), 20*time.Millisecond)
+	defer cancel()
+	late, joined := make(chan error, 1), make(chan any, 1)
+	go func() {
+		_, err := g.core().doContext(ctx, &asking{key: "key"}, func(context.Context, *asking) (any, error) { return 2, nil })
+		late <- err
+	}()
+	go func() {
+		v, _, _ := g.Do("key", value(3))
+		joined <- v
+	}()
+	select {
+	case err := <-late:
+		if err != context.DeadlineExceeded {
+			t.Error("its context ends it", err)
+		}
+	case <-time.After(30 * time.Second):
+		t.Error("its context is not looked at")
+	}
+	leave()
+	until(t, "it joins", func() bool { return g.Stats().Joins == 1 })
+	close(release)
+	receive(t, led)
+	if v := <-joined; v != 1 {
+		t.Error("it has joined", v)
+	}
+}
+
+// A batch loads the keys that it leads before it waits for a call that has too many holders. Else two batches could wait for each
+// other for good, each of which leads what the other one finds so.
+func TestCrowdedBatch(t *testing.T) {
+	if isOld || testing.Short() {
+		t.Skip("it has no library, or it takes some 100 MB")
+	}
+	started, release := chans()
+	c := newBatches(t, func(_ context.Context, keys []string) (map[string]Loaded[int], error) { return numbers(keys), nil })
+	go c.GetWith(always, "key-1", func(context.Context, string) (Loaded[int], error) {
+		close(started)
+		<-release
+		return Loaded[int]{Value: 1}, nil
+	})
+	begun(t, started)
+	leave := crowds(t, c.now.Load().p, c.kind.name("key-1"))
+	many := make(chan string, 1)
+	go func() { many <- texts(c.GetMany(always, []string{"key-1", "key-2"})) }()
+	until(t, "it loads the other key", func() bool { _, ok := c.GetIfPresent("key-2"); return ok })
+	select {
+	case got := <-many:
+		t.Error("it waits for the call", got)
+	default:
+	}
+	leave()
+	close(release)
+	if got := <-many; got != "1, 2" {
+		t.Error("its values", got)
+	}
+}
+
+// A refresh does not wait for a call that has too many holders: it is a load of its key.
+func TestCrowdedRefresh(t *testing.T) {
+	if isOld || testing.Short() {
+		t.Skip("it has no library, or it takes some 100 MB")
+	}
+	o := newCounting(t, 10, WithRefreshAfter(time.Minute))
+	mustGet(t, o.Cache, "key", 1)
+	o.pass(time.Minute)
+	p, started, release := o.now.Load().p, make(chan struct{}), make(chan struct{})
+	go p.doBehind(always, o.kind.name("key"), func(context.Context, *asking) (any, error) {
+		close(started)
+		<-release
+		return nil, nil
+	})
+	begun(t, started)
+	defer close(release)
+	leave := crowds(t, p, o.kind.name("key"))
+	defer leave()
+	n := o.now.Load().values.find("key", o.printOf("key"))
+	mustGet(t, o.Cache, "key", 1)
+	until(t, "the refresh ends", func() bool { return !n.isClaimed() })
+}

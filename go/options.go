@@ -14,19 +14,7 @@ type sizes struct {
 	record  func(Load)
 	onPanic func(value any, stack []byte)
 	refused func() bool // whether there is no memory for the library's group: for tests
-
-	// Of a cache.
-	hasTTL        bool
-	cacheOption   string // the name of an option that is for caches alone
-	ttl           time.Duration
-	clock         func() instant // may be another in tests
-	cost, onEvict any            // functions of the cache's types
-}
-
-// The same, for an option of this name that is for caches alone.
-func (s *sizes) forCache(option string) *sizes {
-	s.cacheOption = option
-	return s
+	cache   cacheSizes
 }
 
 const (
@@ -36,8 +24,7 @@ const (
 
 func defaultSizes() sizes { return sizes{loads: defaultLoads} }
 
-// Option is an option of New, NewGroup and NewCache. WithCost, WithTTL and WithOnEvict are for NewCache
-// alone.
+// Option is an option of New, NewGroup and NewCache. Some are for caches alone.
 type Option func(*sizes)
 
 // WithLoads tells how many loads are expected to run at one time, 1 to 1,048,576: a group begins
@@ -77,8 +64,8 @@ func makeCore(options []Option) (*core, error) {
 	for _, option := range options {
 		option(&s)
 	}
-	if s.cacheOption != "" {
-		return nil, fmt.Errorf("%w: %s is for a cache", ErrOption, s.cacheOption)
+	if s.cache.option != "" {
+		return nil, fmt.Errorf("%w: %s is for a cache", ErrOption, s.cache.option)
 	}
 	return s.core()
 }

@@ -3,6 +3,7 @@
 package singleflight
 
 import (
+	"bytes"
 	"context"
 	"errors"
 	"fmt"
@@ -31,6 +32,7 @@ var errStuck = errors.New("a goroutine goes on and on for a minute")
 
 type orderWorld struct {
 	words   []string // of the step
+	kind    string   // group or cache
 	group   *Group
 	cache   *Cache[string, int]
 	actors  map[string]*actor
@@ -40,6 +42,10 @@ type orderWorld struct {
 	loads   map[string]int
 	fillers int
 	caught  any // what the order's goroutines did wrong
+	options []Option
+	clock   time.Time
+	log     *bytes.Buffer // of a group that is recorded
+	records *Recording
 }
 
 // An actor is a caller of the order.
@@ -51,8 +57,11 @@ type actor struct {
 	last     Result    // of its last call
 	forgot   string
 	cancel   context.CancelFunc
-	own      context.Context // of the load that it began last
-	hasBegun bool            // its load, since it asked
+	own      context.Context     // of the load that it began last
+	hasBegun bool                // its load, since it asked
+	many     map[string]Got[int] // what its GetMany returned, and no step has looked at
+	batch    []string            // what the load of a batch loads that it began last
+	behind   bool                // whether it has begun a load behind a get
 }
 
 // One call of an actor, which may be inside the load of another one.
@@ -90,6 +99,8 @@ type orderWorker struct {
 type command struct {
 	what, key, how string
 	number         int
+	keys           []string
+	words          []string // numbers, or nothing
 	call           Call
 }
 
@@ -212,6 +223,10 @@ func (w *orderWorld) serve(state orderState) command {
 		case "forgets call":
 			a.forgot = ""
 			a.forgot = map[Hit]string{Closed: "closed it", Cleared: "cleared it", Missed: "missed it"}[w.group.ForgetCall(it.key, it.call)]
+		case "forgets tag":
+			w.cache.ForgetTag(it.key)
+		case "asks many":
+			w.askMany(a, it.keys)
 		case "puts":
 			a.forgot = ""
 			a.forgot = map[bool]string{true: "kept it", false: "not kept it"}[w.cache.Put(it.key, it.number)]
@@ -278,11 +293,61 @@ func (w *orderWorld) ask(me *orderWorker, it command) {
 	}
 }
 
+// What the keys of a batch come to.
+func (w *orderWorld) askMany(a *actor, keys []string) {
+	asking := &actorAsking{outer: a.asking}
+	a.asking, a.hasBegun = asking, false
+	got := w.cache.GetMany(always, keys)
+	a.asking, a.many = asking.outer, map[string]Got[int]{}
+	for i, key := range keys {
+		a.many[key] = got[i]
+	}
+}
+
+// The load function of a cache, whose value may have a tag.
+func (w *orderWorld) loadTagged(own context.Context, key string) (it Loaded[int], err error) {
+	a := w.running.of
+	it.Value, err = w.load(own, a, a.asking, key)
+	if tag := w.running.do.how; err == nil && tag != "" {
+		it.Tags = []string{tag}
+	}
+	w.running.do = command{}
+	return it, err
+}
+
+// The load function of a batch.
+func (w *orderWorld) loadMany(own context.Context, keys []string) (map[string]Loaded[int], error) {
+	a := w.running.of
+	a.own, a.hasBegun, a.batch = own, true, keys
+	for _, key := range keys {
+		w.loads[key]++
+	}
+	values := map[string]Loaded[int]{}
+	switch it := w.serve(isLoading); it.what {
+	case "returns":
+		for i, word := range it.words {
+			if n, err := strconv.Atoi(word); err == nil && i < len(keys) {
+				values[keys[i]] = Loaded[int]{Value: n}
+			}
+		}
+		return values, nil
+	case "panics":
+		panic("the load panics, as the order says")
+	}
+	return nil, errOrder
+}
+
 // The load function, which ends as the order says.
 func (w *orderWorld) load(own context.Context, a *actor, asking *actorAsking, key string) (int, error) {
 	w.loads[key]++
-	a.own, a.hasBegun, asking.ran = own, true, true
-	switch it := w.serve(isLoading); it.what {
+	if asking == nil {
+		a.behind = true
+	} else {
+		a.own, a.hasBegun, a.batch, asking.ran = own, true, nil, true
+	}
+	it := w.serve(isLoading)
+	w.running.do = it // for its tag
+	switch it.what {
 	case "returns":
 		return it.number, nil
 	case "panics":
@@ -359,6 +424,21 @@ func (w *orderWorld) is(form string, to ...*string) bool {
 	return true
 }
 
+// isList tells whether the step is one of a caller, this word, and a list of so many words at least, less two.
+func (w *orderWorld) isList(least int, what string) bool {
+	if len(w.words) <= least || w.words[1] != what || len(w.words[0]) != 1 || w.words[0][0] < 'a' || w.words[0][0] > 'h' {
+		return false
+	}
+	for _, word := range w.words[2:] {
+		_, err := strconv.Atoi(word)
+		isKey := word[0] >= 'k' && word[0] <= 'z' && word != "nothing"
+		if isKey == (what == "returns") || what == "returns" && err != nil && word != "nothing" {
+			return false
+		}
+	}
+	return true
+}
+
 func orderNumber(text string) int {
 	n, err := strconv.Atoi(text)
 	if err != nil {
@@ -377,8 +457,17 @@ func (w *orderWorld) acts() (isStep bool, err error) {
 		err = w.tell(w.actor(a), command{what: "asks", key: key, how: "deadline"})
 	case w.is("A asks K by a channel", &a, &key):
 		err = w.tell(w.actor(a), command{what: "asks", key: key, how: "channel"})
-	case w.is("A returns N", &a, &n):
-		err = w.tell(w.actor(a), command{what: "returns", number: orderNumber(n)})
+	case w.is("A returns N with tag W", &a, &n, &key):
+		err = w.tell(w.actor(a), command{what: "returns", number: orderNumber(n), how: key})
+	case w.isList(2, "returns"):
+		number, _ := strconv.Atoi(w.words[2])
+		err = w.tell(w.actor(w.words[0]), command{what: "returns", number: number, words: w.words[2:]})
+	case w.cache != nil && w.isList(3, "asks"):
+		err = w.tell(w.actor(w.words[0]), command{what: "asks many", keys: w.words[2:]})
+	case w.cache != nil && w.is("A forgets tag W", &a, &key):
+		err = w.tell(w.actor(a), command{what: "forgets tag", key: key})
+	case w.cache != nil && w.is("the clock goes on by N", &n):
+		w.clock = w.clock.Add(time.Duration(orderNumber(n)) * time.Second)
 	case w.is("A fails", &a):
 		err = w.tell(w.actor(a), command{what: "fails"})
 	case w.is("A panics", &a):
@@ -460,6 +549,24 @@ func (w *orderWorld) says() (isStep bool, err error) {
 		it := w.actor(a)
 		err = holds(it.hasBegun && it.got == nil && w.find(it, isLoading) != nil)
 		it.hasBegun = false
+	case w.isList(2, "leads"):
+		it := w.actor(w.words[0])
+		if !it.hasBegun || strings.Join(it.batch, " ") != strings.Join(w.words[2:], " ") {
+			err = fmt.Errorf("it has begun to load %v: %v", it.batch, it.hasBegun)
+		}
+		it.hasBegun = false
+	case w.is("A refreshes", &a):
+		it := w.actor(a)
+		err = holds(it.behind && w.find(it, isLoading) != nil)
+		it.behind = false
+	case w.is("A has W at K", &a, &n, &key), w.is("A has an error at K", &a, &key):
+		it, ok := w.actor(a).many[key]
+		number, isError := strconv.Atoi(n)
+		if !ok || n == "nothing" && it.Err != ErrNotFound || n == "" && it.Err != errOrder ||
+			isError == nil && (it.Err != nil || it.Value != number) {
+			err = fmt.Errorf("%s has %v at %s: %v", a, it, key, ok)
+		}
+		delete(w.actor(a).many, key)
 	case w.is("A joins", &a):
 		me := w.find(w.actor(a), isBlocked)
 		err = holds(me != nil && me.at == beforeSleep && !w.actor(a).hasBegun)
@@ -524,8 +631,8 @@ func (w *orderWorld) saysResult() (isStep bool, err error) {
 		return false, nil
 	}
 	w.words = all[:how]
-	isError, isPanic := w.is("A has an error", &name), w.is("A has a panic", &name)
-	if !isError && !isPanic && !w.is("A has N", &name, &n) {
+	isError, isPanic, isNothing := w.is("A has an error", &name), w.is("A has a panic", &name), w.is("A has nothing", &name)
+	if !isError && !isPanic && !isNothing && !w.is("A has N", &name, &n) {
 		return false, nil
 	}
 	a := w.actor(name)
@@ -533,7 +640,7 @@ func (w *orderWorld) saysResult() (isStep bool, err error) {
 	if got == nil {
 		return true, fmt.Errorf("%s %s", name, w.what(a))
 	}
-	is := isPanic && got.panicked || isError && got.Err == errOrder || n != "" && got.Err == nil && !got.panicked && got.Val == orderNumber(n)
+	is := isPanic && got.panicked || isNothing && got.Err == ErrNotFound || isError && got.Err == errOrder || n != "" && got.Err == nil && !got.panicked && got.Val == orderNumber(n)
 	w.words = all[how:]
 	switch {
 	case len(w.words) == 0 && (w.cache != nil || isPanic):
@@ -566,9 +673,9 @@ func isOurs(languages []string) (is bool, err error) {
 	return is, nil
 }
 
-// playOrder plays an order, of this name. Its error names the line.
-func playOrder(name, text string) (err error) {
-	w := &orderWorld{actors: map[string]*actor{}, back: make(chan struct{}), loads: map[string]int{}}
+// playOrder plays an order, of this name. Its error names the line. The log gets the recording of a group, if there is one.
+func playOrder(name, text string, log *bytes.Buffer) (err error) {
+	w := &orderWorld{actors: map[string]*actor{}, back: make(chan struct{}), loads: map[string]int{}, log: log}
 	defer func() { schedule = nil }()
 	for i, line := range strings.Split(text, "\n") {
 		line, _, _ = strings.Cut(line, "#")
@@ -577,12 +684,9 @@ func playOrder(name, text string) (err error) {
 		if len(words) == 0 {
 			continue
 		}
-		if w.group == nil && w.cache == nil {
-			if len(words) != 1 || words[0] != "group" && words[0] != "cache" {
+		if w.kind == "" {
+			if w.kind = words[0]; len(words) != 1 || w.kind != "group" && w.kind != "cache" {
 				return fail(errors.New("an order begins with group or cache"))
-			}
-			if err := w.open(words[0] == "cache"); err != nil {
-				return fail(err)
 			}
 			continue
 		}
@@ -608,8 +712,21 @@ func playOrder(name, text string) (err error) {
 			continue
 		}
 		w.words = words
+		if schedule == nil {
+			if w.isOption() {
+				continue
+			}
+			if err := w.open(); err != nil {
+				return fail(err)
+			}
+		}
 		if err := w.step(); err != nil {
 			return fail(err)
+		}
+	}
+	if schedule == nil && w.kind != "" {
+		if err := w.open(); err != nil {
+			return err
 		}
 	}
 	if err := w.end(); err != nil {
@@ -618,16 +735,40 @@ func playOrder(name, text string) (err error) {
 	return nil
 }
 
-func (w *orderWorld) open(isCache bool) (err error) {
+// isOption tells whether the line is one of the cache's options, which come first.
+func (w *orderWorld) isOption() bool {
+	var n string
+	seconds := func() time.Duration { return time.Duration(orderNumber(n)) * time.Second }
+	switch {
+	case w.kind != "cache":
+		return false
+	case w.is("values live for N", &n):
+		w.options = append(w.options, WithTTL(seconds()))
+	case w.is("values are refreshed after N", &n):
+		w.options = append(w.options, WithRefreshAfter(seconds()))
+	case w.is("values are stale for N", &n):
+		w.options = append(w.options, WithStaleIfError(seconds()))
+	case w.is("errors are kept for N", &n):
+		ttl := seconds()
+		w.options = append(w.options, WithErrorTTL(func(error) time.Duration { return ttl }))
+	default:
+		return false
+	}
+	return true
+}
+
+func (w *orderWorld) open() (err error) {
 	schedulesHash = 1
-	if isCache {
-		w.cache, err = NewCache(100, func(own context.Context, key string) (int, error) {
-			a := w.running.of
-			return w.load(own, a, a.asking, key)
-		})
+	if w.kind == "cache" {
+		w.clock = time.Unix(1700000000, 0)
+		w.cache, err = NewCacheOf(100, w.loadTagged, append(w.options, WithBatchLoader(w.loadMany),
+			WithClock(func() time.Time { return w.clock }))...)
 	} else {
 		w.group = &Group{}
 		w.group.made.Store(newCore(&sizes{loads: 1, isSmall: true, onPanic: func(any, []byte) {}}))
+		if w.log != nil {
+			w.records, err = w.group.Record(w.log)
+		}
 	}
 	schedule = w
 	return err
@@ -660,7 +801,7 @@ func (w *orderWorld) end() error {
 		return errors.New("an order begins with group or cache")
 	}
 	for name, a := range w.actors {
-		if me := w.find(a, isIdle); me == nil || a.got != nil || a.stop != "" {
+		if me := w.find(a, isIdle); me == nil || a.got != nil || a.stop != "" || len(a.many) > 0 {
 			return fmt.Errorf("%s %s, and is to stop at %q", name, w.what(a), a.stop)
 		}
 	}
@@ -679,6 +820,28 @@ func (w *orderWorld) end() error {
 		return errors.New("a call of the table was not given back once")
 	}
 	w.core().table.close()
+	return w.judged()
+}
+
+// judged tells whether the recording has each load of the group, and is legal in time.
+func (w *orderWorld) judged() error {
+	if w.records == nil {
+		return nil
+	}
+	schedule = nil
+	if n, err := w.records.Stop(); err != nil || n.Lost != 0 {
+		return fmt.Errorf("the recording: %v %v", n, err)
+	}
+	all, _, err := readRecords(w.log.Bytes())
+	if err != nil {
+		return err
+	}
+	if err := judge(all); err != nil {
+		return fmt.Errorf("what was recorded is not legal in time: %w", err)
+	}
+	if leads, st := countOf(all, "lead"), w.core().stats(); leads != st.Loads {
+		return fmt.Errorf("%d loads are recorded, of %d", leads, st.Loads)
+	}
 	return nil
 }
 
@@ -691,7 +854,10 @@ func TestSchedulesOfOrders(t *testing.T) {
 	for _, path := range paths {
 		text, err := os.ReadFile(path)
 		if err == nil {
-			err = playOrder(path, string(text))
+			err = playOrder(path, string(text), nil)
+		}
+		if err == nil {
+			err = playOrder(path+", recorded", string(text), new(bytes.Buffer))
 		}
 		if errors.Is(err, errStuck) {
 			t.Fatal(err)
@@ -715,19 +881,26 @@ func TestSchedulesOfWrongOrders(t *testing.T) {
 		"group\na returns 1":             "it:2: a returns 1: a cannot do that now: it is idle",
 		"group\na asks k\na leaves":      "it:3: a leaves: it asked without a deadline",
 		"group\na asks k\na joins":       "it:3: a joins: a runs a load",
-		"group\na asks k\na leads\n\nb asks k\nb leads":             "it:6: b leads: b waits",
-		"group\na asks k\na leads\na returns 1\na has 2, alone":     "it:5: a has 2, alone: a has 1, ",
-		"group\na asks k\na leads\na returns 1\na has 1, shared":    "it:5: a has 1, shared: a has 1, ",
-		"group\na asks k\na leads\na returns 1\na has 1":            "it:5: a has 1: this is no step",
-		"group\na asks k\na leads\na returns 1\nk was loaded twice": "it:5: k was loaded twice: it was loaded 1 times",
-		"group\na asks k\na leads\na returns 1":                     "it: at its end: a has 1, ",
-		"group\na asks k":                                           "it: at its end: a runs a load",
-		"group\na will stop once settled\nf forgets k":              "it: at its end: a is idle, and is to stop at \"settled\"",
-		"cache\nk holds 1":                                          "it:2: k holds 1: it holds 0, false",
-		"group\nC: a flies\nonly C\na flies":                        "",
-		"group\n# a flies\nRust, C: a flies":                        "",
+		"group\na asks k\na leads\n\nb asks k\nb leads":               "it:6: b leads: b waits",
+		"group\na asks k\na leads\na returns 1\na has 2, alone":       "it:5: a has 2, alone: a has 1, ",
+		"group\na asks k\na leads\na returns 1\na has 1, shared":      "it:5: a has 1, shared: a has 1, ",
+		"group\na asks k\na leads\na returns 1\na has 1":              "it:5: a has 1: this is no step",
+		"group\na asks k\na leads\na returns 1\nk was loaded twice":   "it:5: k was loaded twice: it was loaded 1 times",
+		"group\na asks k\na leads\na returns 1":                       "it: at its end: a has 1, ",
+		"group\na asks k":                                             "it: at its end: a runs a load",
+		"group\na will stop once settled\nf forgets k":                "it: at its end: a is idle, and is to stop at \"settled\"",
+		"cache\nvalues live for 1\nk holds 1":                         "it:3: k holds 1: it holds 0, false",
+		"cache\na asks k\nvalues live for 1":                          "it:3: values live for 1: this is no step",
+		"group\nvalues live for 1":                                    "it:2: values live for 1: this is no step",
+		"cache\na asks k l\na leads k":                                "it:3: a leads k: it has begun to load [k l]: true",
+		"cache\na asks k l\na leads k l\na returns 1 2\na has 1 at k": "it: at its end: a is idle",
+		"cache\na asks k l\na leads k l\na returns 1 2\na has 1 at l": "it:5: a has 1 at l: a has {2 <nil>} at l",
+		"cache\na asks k\na refreshes":                                "it:3: a refreshes: a runs a load",
+		"cache\nk holds 1":                                            "it:2: k holds 1: it holds 0, false",
+		"group\nC: a flies\nonly C\na flies":                          "",
+		"group\n# a flies\nRust, C: a flies":                          "",
 	} {
-		err := playOrder("it", text)
+		err := playOrder("it", text, nil)
 		if want == "" && err != nil || want != "" && (err == nil || !strings.HasPrefix(err.Error(), want)) {
 			t.Errorf("%q: %v, and not %s", text, err, want)
 		}

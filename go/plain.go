@@ -9,6 +9,10 @@ import (
 
 type pointer = unsafe.Pointer
 
+// So many bytes has a line of the processor's cache. Structs that different processors write are padded by it, so that they seldom
+// share a line.
+const cacheLine = 64
+
 // A plainTable says in plain Go what the library says: which caller leads, which ones join, what a Forget ends, and what is current. It is
 // tested, against the library too, and not proved.
 //
@@ -31,14 +35,16 @@ type shard struct {
 	loads   uint64
 	joins   uint64
 	forgets uint64
-	_       [64]byte
+	_       [cacheLine]byte
 }
 
 const (
 	fewestShards = 8
 	usualShards  = 64
 	mostShards   = 1 << 12
-	slotsOfShard = 16
+	loadsOfShard = 8 // at one time, so that callers of different keys seldom meet at its lock
+	bitsOfShard  = 4
+	slotsOfShard = 1 << bitsOfShard // or more
 )
 
 func (t *plainTable) open(size *sizes) {
@@ -46,10 +52,10 @@ func (t *plainTable) open(size *sizes) {
 	if size.isSmall {
 		shards = fewestShards
 	}
-	for shards < mostShards && shards*8 < int(size.loads) {
+	for shards < mostShards && shards*loadsOfShard < int(size.loads) {
 		shards *= 2
 	}
-	for t.bits = 4; slots*uint64(shards) < size.slots; t.bits++ {
+	for t.bits = bitsOfShard; slots*uint64(shards) < size.slots; t.bits++ {
 		slots *= 2
 	}
 	t.seed = maphash.MakeSeed()

@@ -14,19 +14,20 @@ import (
 	"unicode/utf8"
 )
 
-// ErrRecording is the error of Record for a group that is recorded already.
+// ErrRecording is the error of Record for a group or a cache that is recorded already.
 var ErrRecording = errors.New("singleflight: the group is recorded already")
 
 // Recording is what Record has begun. Its method may be called by any number of goroutines.
 type Recording struct {
-	p *core
-	r *recorder
+	of interface{ endRecording(*recorder) }
+	r  *recorder
 }
 
 // Recorded is what Stop returns.
 type Recorded struct {
-	Events uint64 // lines that were written, beside those of the format
-	Lost   uint64 // events that were dropped, since the writer was too slow or has failed
+	Events    uint64 // lines that were written, beside those of the format
+	Lost      uint64 // events that were dropped, since the writer was too slow or has failed
+	Evictions uint64 // recorded values of a cache that made room for others, which is no event
 }
 
 // Record begins to write to w what the group's calls do, until Stop: records in format 4, by which
@@ -57,9 +58,9 @@ func (o *Of[K, V]) Record(w io.Writer) (*Recording, error) { return o.core().beg
 // Stop ends the recording, and returns when all that was recorded is written. It returns the error
 // of the writer, if that has failed. It may be called again, and then returns the same.
 func (r *Recording) Stop() (Recorded, error) {
-	r.p.endRecording(r.r)
+	r.of.endRecording(r.r)
 	<-r.r.over
-	return Recorded{r.r.events, r.r.lost}, r.r.err
+	return Recorded{r.r.events, r.r.lost, r.r.evictions.Load()}, r.r.err
 }
 
 func (p *core) beginRecording(w io.Writer) (*Recording, error) {
@@ -68,17 +69,20 @@ func (p *core) beginRecording(w io.Writer) (*Recording, error) {
 	if r := p.recorder.Load(); r != nil && !r.done.Load() {
 		return nil, ErrRecording
 	}
-	p.recordings++
-	r := &recorder{
-		number: p.recordings, out: w, meets: map[callID]meeting{},
-		wake: make(chan struct{}, 1), quit: make(chan struct{}), over: make(chan struct{}),
-	}
+	r := newRecorder(w)
 	p.recorder.Store(r)
 	// What a group records that nobody can call any more ends.
 	runtime.SetFinalizer(p, nil)
 	runtime.SetFinalizer(p, func(p *core) { p.endRecording(r) })
 	go r.run()
 	return &Recording{p, r}, nil
+}
+
+func newRecorder(w io.Writer) *recorder {
+	return &recorder{
+		out: w, meets: map[callID]meeting{},
+		wake: make(chan struct{}, 1), quit: make(chan struct{}), over: make(chan struct{}),
+	}
 }
 
 // Nothing is recorded any more that has not ended.
@@ -114,6 +118,7 @@ type callRecord struct {
 	err              error
 	members          atomic.Pointer[memberRecord]
 	closing          *forgetRecord
+	value            *valueRecord // of a cache's call: see ledger
 }
 
 type memberRecord struct {
@@ -153,12 +158,17 @@ func (r *recorder) record(key string, from int64) *callRecord {
 	return rec
 }
 
+// begins tells that the load function is about to be called.
+func (rec *callRecord) begins() { rec.ran, rec.led = true, now() }
+
 // part is called when one of the parts has come.
 func (rec *callRecord) part() {
 	if rec.parts.Add(-1) > 0 {
 		return
 	}
-	if rec.ran {
+	if rec.value != nil {
+		rec.complete()
+	} else if rec.ran {
 		rec.by.push(entry{events: rec.events(), call: rec})
 	}
 }
@@ -192,9 +202,9 @@ func (rec *callRecord) events() int {
 	return n
 }
 
-// enter adds a member that is about to leave the call, if both are of one recording.
+// enter adds a member that is about to leave the call, if both are of one recording. A cache's member says so later: see holds.
 func (a *asking) enter() {
-	if a.by == nil {
+	if a.by == nil || a.by.isOfCache {
 		return
 	}
 	rec := a.call.rec.Load()
@@ -254,7 +264,7 @@ func (r *recorder) forgot(f forgetting, key string, id callID, closed bool) {
 	case closed:
 		r.closed(id, &forgetRecord{r.caller(), -1, forever, f.one})
 	case r == f.by:
-		r.push(entry{events: 1, key: key, caller: r.caller(), from: f.from, to: now()})
+		r.push(entry{events: 1, key: key, name: uint64(r.caller()) << 32, from: f.from, to: now()})
 	}
 }
 
@@ -262,8 +272,7 @@ func (r *recorder) forgot(f forgetting, key string, id callID, closed bool) {
 // lock of a lane that is free, so it never waits. The writer's goroutine takes all entries of a lane
 // at once.
 type recorder struct {
-	number uint16 // of the recording
-	out    io.Writer
+	out io.Writer
 	// By call, of forgotten ones.
 	meeting sync.Mutex
 	meets   map[callID]meeting
@@ -280,12 +289,19 @@ type recorder struct {
 	events  uint64 // those that were written
 	lost    uint64
 	err     error
+
+	// Of a cache alone.
+	isOfCache bool
+	evictions atomic.Uint64
+	tags      tagRecords
 }
 
-// So many lanes there are, and so many events at most are kept in one, but for those of one call.
+// So many lanes there are, and so many events at most are kept in one, but for those of one call. The writer is woken early enough to
+// take them before the lane is full.
 const (
-	lanes        = 64
-	eventsOfLane = 1 << 14
+	lanes          = 64
+	eventsOfLane   = 1 << 14
+	eventsThatWake = eventsOfLane / 4
 )
 
 // broken is the error of a function that has not returned: it panicked with this, or ended its goroutine.
@@ -300,16 +316,18 @@ type recordLane struct {
 	mu      sync.Mutex
 	events  int
 	entries []entry
-	names   atomic.Uint64 // how many it has given
-	_       [64]byte
+	live    map[*callRecord]struct{} // a cache's calls whose values are kept, or are about to be
+	names   atomic.Uint64            // how many it has given
+	_       [cacheLine]byte
 }
 
-// A call; or a Forget, which found no open call.
+// A call; a Forget, which found no open call; or an Enter, which is the hit of a cache.
 type entry struct {
 	events   int
 	call     *callRecord
+	isHit    bool
 	key      string
-	caller   uint32
+	name     uint64 // of the Enter; of a Forget its caller is known
 	from, to int64
 }
 
@@ -330,8 +348,13 @@ func (r *recorder) name() uint64 {
 	return 0
 }
 
+// push puts the entry into a lane: a call that is live into the one where it is.
 func (r *recorder) push(it entry) {
 	at, events := here(), it.events
+	if it.call != nil && !it.isHit && it.call.isLive() {
+		r.pushLive(it)
+		return
+	}
 	for try := uint(0); try < lanes; try++ {
 		l := &r.lanes[(at+try)%lanes]
 		if !l.mu.TryLock() {
@@ -340,17 +363,20 @@ func (r *recorder) push(it entry) {
 		before := l.events
 		// Whoever ends the recording says so first, and then takes each lock.
 		isOver := r.done.Load()
-		isFull := before > 0 && before+events > eventsOfLane
+		isFull := l.isFull(events)
 		if !isOver && !isFull {
 			l.entries = append(l.entries, it)
 			l.events += events
+			if it.isHit {
+				it.call.value.hits.Add(1)
+			}
 		}
 		l.mu.Unlock()
 		switch {
 		case isOver:
 		case isFull:
 			r.missed.Add(uint64(events))
-		case before < eventsOfLane/4 && before+events >= eventsOfLane/4:
+		case before < eventsThatWake && before+events >= eventsThatWake:
 			select {
 			case r.wake <- struct{}{}:
 			default:
@@ -385,6 +411,11 @@ func (r *recorder) run() {
 		for i := range r.lanes {
 			r.lost += events(r.batch)
 			r.batch = r.lanes[i].empty(nil)
+			for rec := range r.lanes[i].takeLive() {
+				rec.value.of.mu.Lock()
+				r.lost += uint64(rec.finish())
+				rec.value.of.mu.Unlock()
+			}
 		}
 		r.lost += events(r.batch) + r.pushed + r.missed.Load()
 		close(r.over)
@@ -408,6 +439,7 @@ func (l *recordLane) empty(room []entry) (all []entry) {
 	return all
 }
 
+// copy copies what is in the lanes to the writer, until the recording ends.
 func (r *recorder) copy() error {
 	ticker := time.NewTicker(recordEvery)
 	defer ticker.Stop()
@@ -433,6 +465,11 @@ func (r *recorder) copy() error {
 				r.batch[0] = entry{}
 			}
 			room = all[:0]
+		}
+		if last {
+			if err := r.copyLive(); err != nil {
+				return err
+			}
 		}
 		if n := r.missed.Swap(0); n > 0 {
 			r.lost += n
@@ -472,6 +509,14 @@ func (it *entry) append(text []byte) []byte {
 	if rec == nil {
 		return it.appendForget(text)
 	}
+	if it.isHit {
+		return appendEnter(text, rec, it.name, it.from, it.to)
+	}
+	return rec.append(text)
+}
+
+// Appends the lines of the call.
+func (rec *callRecord) append(text []byte) []byte {
 	leader := uint32(rec.name >> 32)
 	text = appendEvent(text, "lead", leader)
 	text = appendKey(text, rec.key)
@@ -481,11 +526,10 @@ func (it *entry) append(text []byte) []byte {
 	joiners := uint64(0)
 	for at := rec.members.Load(); at != nil; at = at.next {
 		joiners++
-		text = appendEvent(text, "enter", uint32(at.name>>32))
-		text = appendKey(text, rec.key)
-		text = appendName(text, `,"c":`, rec.name)
-		text = appendName(text, `,"m":`, at.name)
-		text = appendTimes(text, at.from, at.to)
+		text = appendEnter(text, rec, at.name, at.from, at.to)
+	}
+	if rec.value != nil {
+		joiners = rec.value.hits.Load()
 	}
 	if f := rec.closing; f != nil && f.one {
 		text = appendEvent(text, "forgetcall", f.caller)
@@ -510,8 +554,16 @@ func (it *entry) append(text []byte) []byte {
 	return appendTimes(text, rec.settles, rec.settled)
 }
 
+func appendEnter(text []byte, rec *callRecord, name uint64, from, to int64) []byte {
+	text = appendEvent(text, "enter", uint32(name>>32))
+	text = appendKey(text, rec.key)
+	text = appendName(text, `,"c":`, rec.name)
+	text = appendName(text, `,"m":`, name)
+	return appendTimes(text, from, to)
+}
+
 func (it *entry) appendForget(text []byte) []byte {
-	text = appendEvent(text, "forget", it.caller)
+	text = appendEvent(text, "forget", uint32(it.name>>32))
 	text = appendKey(text, it.key)
 	text = append(text, `,"closed":null`...)
 	return appendTimes(text, it.from, it.to)

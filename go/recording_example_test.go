@@ -31,6 +31,28 @@ func ExampleOf_Record() {
 	// {"format":4,"lost":0}
 }
 
+func ExampleCache_Record() {
+	ctx := context.Background()
+	users, err := singleflight.NewCache(10_000, func(ctx context.Context, key string) (string, error) { return "Ada", nil })
+	if err != nil {
+		panic(err)
+	}
+	defer users.Close()
+	log := new(bytes.Buffer) // a file, in a server
+	recording, err := users.Record(log)
+	if err != nil {
+		panic(err)
+	}
+	// The server serves.
+	users.Get(ctx, "user-7")
+	users.Get(ctx, "user-7")
+	users.Forget("user-7")
+	recorded, err := recording.Stop()
+	fmt.Println(recorded.Events, recorded.Lost, recorded.Evictions, err)
+	// Output:
+	// 5 0 0 <nil>
+}
+
 func ExampleRecording() {
 	var group singleflight.Group
 	defer group.Close()

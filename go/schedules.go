@@ -8,7 +8,7 @@ import (
 )
 
 // By this tag the package runs under a scheduler of the tests, which lets one goroutine run at a time and picks at random
-// who goes on at each point. What would block tries again instead.
+// which one goes on at each point. What would block tries again instead.
 
 type scheduled interface {
 	at(where)

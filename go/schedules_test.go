@@ -23,7 +23,7 @@ type world struct {
 	back    chan struct{}
 	now     int  // a step each yield
 	stuck   int  // yields in a row that were of workers who could not go on
-	stalls  bool // whether who goes on is told by priorities, so that some are stopped for long
+	stalls  bool // whether priorities say which worker goes on, so that some are stopped for long
 	lowest  int
 	few     bool // whether there are two keys, which are asked for and nothing else
 	closed  bool
@@ -459,6 +459,7 @@ func playRecorded(t *testing.T, seed int64, log *bytes.Buffer) {
 	w.running = w.workers[0]
 	ended := w.play()
 	schedule = nil
+	leads := uint64(0)
 	if recording != nil {
 		if n, err := recording.Stop(); err != nil || n.Lost != 0 {
 			w.problem("the recording: %v %v", n, err)
@@ -467,6 +468,7 @@ func playRecorded(t *testing.T, seed int64, log *bytes.Buffer) {
 		if err == nil {
 			err = judge(all)
 		}
+		leads = countOf(all, "lead")
 		if err != nil {
 			w.problem("what was recorded is not legal in time: %v", err)
 		}
@@ -476,6 +478,9 @@ func playRecorded(t *testing.T, seed int64, log *bytes.Buffer) {
 	} else {
 		if recording != nil && len(recording.r.meets) > 0 && !w.closed {
 			w.problem("%d Forgets and calls have not met", len(recording.r.meets))
+		}
+		if recording != nil && leads != p.stats().Loads {
+			w.problem("%d loads are recorded, of %d", leads, p.stats().Loads)
 		}
 		if st := p.stats(); st.InUse != 0 || st.Forgets != w.forgets || waiting(w.group) != 0 {
 			w.problem("something is left, or numbers: %v, %d Forgets", st, w.forgets)

@@ -85,9 +85,10 @@ struct getter {
 };
 
 /* What a cache keeps. */
-static void *load_nothing(void *context, const uint8_t *key, size_t len, uint64_t *weight) {
-    (void)key, (void)len, (void)weight;
-    return context;
+static int load_nothing(void *context, const uint8_t *key, size_t len, sflight_cache_loaded *loaded) {
+    (void)key, (void)len;
+    loaded->value = context;
+    return SFLIGHT_CACHE_LOADED;
 }
 
 /* Nanoseconds of an sflight_cache_get that finds its value, with the release. */
@@ -141,7 +142,8 @@ static double gets(sflight_pool *pool, int threads) {
     return took;
 }
 
-/* The same while the pool is recorded, and while it is not, in rounds that alternate; and how many of a hundred events were lost. */
+/* Prints the time of an sflight_do while the pool is recorded and while it is not, in rounds that alternate, and how many of a hundred
+ * events were lost. */
 static void recorded(int threads) {
     double with[ROUNDS], without[ROUNDS];
     uint64_t events = 0, lost = 0;

@@ -1,4 +1,4 @@
-# The library for CMake: find_package(sflight 0.1), then one of these targets.
+# The library for CMake: find_package(sflight), then one of these targets.
 #   sflight::sflight  the static library, with its header
 #   sflight::shared   the shared library, with its header, where it is installed
 #   sflight::do       sflight_do.c, which blocks, over the static library

@@ -1,6 +1,8 @@
 /* A page server over sflight_cache.h: GET /NAME answers a page, which takes 50 ms to make and is
  * then kept; POST /NAME writes the page anew and forgets it, so that no GET that begins after the
- * answer gets an older one. Four threads serve; a hundred requests for one missing page make one.
+ * answer gets an older one. PURGE /TAG does so for all pages whose name begins with the tag and a
+ * hyphen. Four threads serve; a hundred requests for one missing page make one. A page that is a
+ * minute old is made anew while it is still answered, and one that cannot be made stays for an hour.
  *
  *     cache_server PORT     on 127.0.0.1; port 0 is one that is free, and is printed
  *
@@ -19,20 +21,26 @@
 
 enum { WORKERS = 4, PAGE = 256, REQUEST = 4096 };
 
+#define SECOND INT64_C(1000000000)
+
 /* The store behind the cache: how often it was written. */
 static atomic_uint revision = 1;
 static sflight_cache *cache;
 static int listener;
 
-static void *make_page(void *context, const uint8_t *name, size_t len, uint64_t *weight) {
+static int make_page(void *context, const uint8_t *name, size_t len, sflight_cache_loaded *loaded) {
     (void)context;
+    const uint8_t *hyphen = memchr(name, '-', len);
+    if (len == 7 && memcmp(name, "nothing", len) == 0) return SFLIGHT_CACHE_MISSING;
+    if (hyphen) sflight_cache_add_tag(loaded, name, (size_t)(hyphen - name));
     char *page = malloc(PAGE);
-    if (!page) return NULL;
+    if (!page) return SFLIGHT_CACHE_FAILED;
     unsigned seen = atomic_load(&revision);
     nanosleep(&(struct timespec){0, 50000000}, NULL);
     snprintf(page, PAGE, "page %.*s of revision %u\n", (int)(len < 64 ? len : 64), (const char *)name, seen);
-    *weight = strlen(page);
-    return page;
+    loaded->value = page;
+    loaded->weight = strlen(page);
+    return SFLIGHT_CACHE_LOADED;
 }
 
 static void drop_page(void *context, void *page) {
@@ -65,7 +73,12 @@ static void serve(int client) {
     text[len] = 0;
     char method[8], name[256];
     if (sscanf(text, "%7s /%255[^ \r\n]", method, name) != 2) {
-        answer(client, "400 Bad Request", "a request is GET /NAME or POST /NAME\n");
+        answer(client, "400 Bad Request", "a request is GET /NAME, POST /NAME or PURGE /TAG\n");
+        return;
+    }
+    if (strcmp(method, "PURGE") == 0) {
+        sflight_cache_forget_tag(cache, (const uint8_t *)name, strlen(name));
+        answer(client, "200 OK", "purged\n");
         return;
     }
     if (strcmp(method, "POST") == 0) {
@@ -75,8 +88,13 @@ static void serve(int client) {
         return;
     }
     sflight_value page;
-    int code = sflight_cache_get(cache, (const uint8_t *)name, strlen(name), &page);
-    if (code > SFLIGHT_CACHE_JOINED) {
+    const sflight_cache_how how = {.timeout = 10 * SECOND};
+    int code = sflight_cache_get_with(cache, (const uint8_t *)name, strlen(name), &how, &page);
+    if (code == SFLIGHT_CACHE_MISSING) {
+        answer(client, "404 Not Found", "there is no such page\n");
+        return;
+    }
+    if (!sflight_cache_has_value(code)) {
         answer(client, "503 Service Unavailable", "the page could not be made\n");
         return;
     }
@@ -96,7 +114,8 @@ int main(int count, char **words) {
     address.sin_port = htons((uint16_t)(count > 1 ? atoi(words[1]) : 8080));
     signal(SIGPIPE, SIG_IGN);
     cache = sflight_cache_open(&(sflight_cache_options){
-        .limit = 64 << 20, .entries = 100000, .load = make_page, .drop = drop_page});
+        .limit = 64 << 20, .entries = 100000, .load = make_page, .drop = drop_page, .ttl = 70 * SECOND,
+        .refresh_after = 60 * SECOND, .stale_if_error = 3600 * SECOND, .missing_ttl = SECOND, .jitter = 0.1});
     listener = socket(AF_INET, SOCK_STREAM, 0);
     if (!cache || listener < 0 || bind(listener, (struct sockaddr *)&address, size) || listen(listener, 128)
         || getsockname(listener, (struct sockaddr *)&address, &size)) {

@@ -1,4 +1,7 @@
 /* Tests of sflight_cache.h. It has the files themselves, so that memory is refused in them. */
+#ifndef _GNU_SOURCE
+#define _GNU_SOURCE
+#endif
 #include <stddef.h>
 #include <stdlib.h>
 static void *test_malloc(size_t size);
@@ -98,6 +101,7 @@ struct plan {
     bool fails;
     atomic_bool held;  /* a load waits while this is set */
     uint64_t weight;   /* 1 where it is 0 */
+    const char *tag;   /* of each value, where it is not null */
     sflight_cache *cache; /* a load uses this, where it is not null */
     void (*meanwhile)(struct plan *plan, const uint8_t *key, size_t len); /* what the first load does */
     void (*waits)(const uint8_t *key, size_t len);                        /* and what each load does */
@@ -109,7 +113,7 @@ static unsigned number_of(const uint8_t *key, size_t len) {
     return n % KEYS;
 }
 
-static void *load(void *context, const uint8_t *key, size_t len, uint64_t *weight) {
+static int load(void *context, const uint8_t *key, size_t len, sflight_cache_loaded *loaded) {
     struct plan *plan = context;
     loads++;
     unsigned version = atomic_load(&versions[number_of(key, len)]);
@@ -120,8 +124,9 @@ static void *load(void *context, const uint8_t *key, size_t len, uint64_t *weigh
         meanwhile(plan, key, len);
     }
     if (plan->waits) plan->waits(key, len);
-    if (plan->weight) *weight = plan->weight;
-    if (plan->fails) return NULL;
+    if (plan->weight) loaded->weight = plan->weight;
+    if (plan->tag) sflight_cache_add_tag(loaded, (const uint8_t *)plan->tag, strlen(plan->tag));
+    if (plan->fails) return SFLIGHT_CACHE_FAILED;
     struct page *page = malloc(sizeof *page + len);
     if (!page) abort();
     page->mark = LIVE;
@@ -129,7 +134,8 @@ static void *load(void *context, const uint8_t *key, size_t len, uint64_t *weigh
     page->len = len;
     if (len) memcpy(page->key, key, len);
     live++;
-    return page;
+    loaded->value = page;
+    return SFLIGHT_CACHE_LOADED;
 }
 
 static void drop(void *context, void *value) {
@@ -152,7 +158,7 @@ static sflight_cache *open_cache(uint64_t limit, uint32_t entries, struct plan *
 static int get(sflight_cache *cache, const void *key, size_t len, unsigned *version) {
     sflight_value value;
     int code = sflight_cache_get(cache, key, len, &value);
-    if (code > SFLIGHT_CACHE_JOINED) {
+    if (!sflight_cache_has_value(code)) {
         check(!value.at && !value.entry, "no value comes with a failure");
         return code;
     }
@@ -315,12 +321,12 @@ static bool comes_into_small(sflight_cache *cache, const char *key) {
 
 /* A key that was never there comes into the small queue, and so does one that has left it long ago. */
 static void test_ghosts(void) {
-    enum { ENTRIES = 100, OLD = 50, REMEMBERED = 128 };
+    enum { ENTRIES = 100, OLD = 50, REMEMBERED = 101 };
     struct plan plan = {0};
     sflight_cache *cache = open_cache(ENTRIES, ENTRIES, &plan);
     char key[24];
     bool is_small = true;
-    check(cache->shards[0].ghost_mask / 2 + 1 == REMEMBERED, "so many keys are remembered");
+    check(groups_of(&cache->shards[0]) <= REMEMBERED, "so many keys are remembered");
     for (int i = 0; i < OLD; i++) {
         snprintf(key, sizeof key, "old-%d", i);
         get_text(cache, key);
@@ -378,7 +384,7 @@ static void test_many_entries(void) {
             found += get_text(cache, key) == SFLIGHT_CACHE_HIT;
         }
         check(found == MANY && sflight_cache_statistics(cache).evictions == 0, "what has room is found");
-        check(cache->shards[0].mask + 1 >= (uint64_t)MANY / 2 / cache->count, "and its bucket is short");
+        check(PER_CHUNK * cache->shards[0].table->count >= (uint64_t)MANY / cache->count, "and its table has room");
         for (int i = 0; i < 100; i++) {
             snprintf(key, sizeof key, "more-%d", i);
             get_text(cache, key);
@@ -430,7 +436,10 @@ static void test_seats(void) {
     check(live == 0, "all are dropped");
 }
 
-static size_t room(void) { return mallinfo2().uordblks; }
+static size_t room(void) {
+    struct mallinfo2 info = mallinfo2();
+    return info.uordblks + info.hblkhd;
+}
 
 /* A cache of ten values, all of which it has. */
 static void test_small(void) {
@@ -449,6 +458,60 @@ static void test_small(void) {
 #endif
     for (int c = 0; c < CACHES; c++) sflight_cache_close(caches[c]);
     live = 0;
+}
+
+/* A load whose value takes no memory, so that what is measured is the cache's. */
+static int load_nothing(void *context, const uint8_t *key, size_t len, sflight_cache_loaded *loaded) {
+    (void)context, (void)key, (void)len;
+    loaded->value = NULL;
+    return SFLIGHT_CACHE_LOADED;
+}
+
+/* What malloc has given for the entries of the cache, on average, less their keys. */
+static size_t entries_take(sflight_cache *cache) {
+    size_t bytes = 0, count = 0;
+    for (unsigned i = 0; i < cache->count; i++) {
+        for (int place = IN_SMALL; place <= IN_MAIN; place++) {
+            for (struct sflight_entry *e = cache->shards[i].queues[place].newest; e; e = e->older, count++) bytes += malloc_usable_size(e) - e->len;
+        }
+    }
+    return bytes / count;
+}
+
+/* Many entries, whose keys have from 8 to 23 bytes. With a lifetime of any kind each takes at most 120 bytes and its key. */
+static void test_entries(void) {
+    const int64_t hour = 3600 * INT64_C(1000000000);
+    const sflight_cache_options kinds[] = {{.limit = 0}, {.ttl = hour}, {.ttl = hour, .jitter = 0.5}, {.idle = hour, .refresh_after = hour},
+                                           {.ttl = hour, .idle = hour, .jitter = 0.5, .refresh_after = hour, .stale_if_error = hour}};
+#ifdef SIZES
+    const uint32_t entries = 100000;
+#else
+    const uint32_t entries = MANY;
+#endif
+    for (unsigned kind = 0; kind < sizeof kinds / sizeof *kinds; kind++) {
+        sflight_cache_options options = kinds[kind];
+        options.limit = options.entries = entries;
+        options.load = load_nothing;
+        size_t before = room(), keys = 0;
+        sflight_cache *cache = sflight_cache_open(&options);
+        if (!cache) abort();
+        size_t opened = room() - before;
+        for (uint32_t i = 0; i < entries; i++) {
+            char key[24];
+            sflight_value value;
+            size_t len = (size_t)snprintf(key, sizeof key, "%0*u", 8 + (int)(i % 16), i);
+            keys += len;
+            check(sflight_cache_get(cache, (const uint8_t *)key, len, &value) == SFLIGHT_CACHE_LOADED, "each is loaded");
+            sflight_cache_release(cache, &value);
+        }
+        size_t each = (room() - before - keys) / entries;
+        printf("entries of kind %u: %zu bytes each and the key, %zu of them at once\n", kind, each, opened / entries);
+        check(entries_take(cache) <= 80, "an entry is small");
+#ifdef SIZES
+        check(each <= 120, "also with what the cache takes for it");
+#endif
+        sflight_cache_close(cache);
+    }
 }
 
 /* Each allocation of the package is refused in turn. A call that was refused can be made again. */
@@ -485,6 +548,71 @@ static void test_memory(void) {
         if (number > 100) abort();
     }
     check(refused > 3, "each was refused in turn");
+}
+
+static void load_batch(void *context, sflight_cache_loading *loadings, size_t count) {
+    for (size_t i = 0; i < count; i++) loadings[i].code = load(context, loadings[i].key, loadings[i].len, &loadings[i].loaded);
+}
+
+static bool sees_page(void *context, const uint8_t *key, size_t len, void *value) {
+    struct page *page = value;
+    ++*(int *)context;
+    check(page->mark == LIVE && page->len == len && !memcmp(page->key, key, len), "a value that is seen is of its key");
+    return true;
+}
+
+static bool is_there(sflight_cache *cache, const char *key) {
+    sflight_value value;
+    bool is = sflight_cache_peek(cache, (const uint8_t *)key, strlen(key), &value);
+    sflight_cache_release(cache, &value);
+    return is;
+}
+
+/* Everything but plain gets, while one allocation is refused. */
+static void use_without_memory(sflight_cache *cache, struct plan *plan) {
+    sflight_cache_item items[3];
+    int seen = 0;
+    for (int i = 0; i < 3; i++) items[i] = (sflight_cache_item){.key = (const uint8_t *)&"abc"[i], .len = 1};
+    sflight_cache_get_many(cache, items, 3, NULL);
+    for (int i = 0; i < 3; i++) {
+        check(items[i].code == SFLIGHT_CACHE_LOADED || (was_refused && items[i].code == SFLIGHT_CACHE_NO_MEMORY), "a batch without memory says so");
+        sflight_cache_release(cache, &items[i].value);
+    }
+    check(sflight_cache_each(cache, sees_page, &seen) ? seen <= 3 : was_refused, "an iteration without memory says so");
+    plan->tag = "t";
+    get_text(cache, "tagged");
+    sflight_cache_forget_tag(cache, (const uint8_t *)"t", 1);
+    check(!is_there(cache, "tagged"), "a Forget of a tag needs no memory");
+    check(get_text(cache, "tagged") != SFLIGHT_CACHE_HIT, "nor does a get find the value");
+    plan->tag = NULL;
+    sflight_cache_loaded l = sflight_cache_of_value(cache, NULL);
+    load(plan, (const uint8_t *)"a", 1, &l);
+    bool is_kept = sflight_cache_put(cache, (const uint8_t *)"a", 1, &l, NULL);
+    check(is_kept == is_there(cache, "a") && (is_kept || was_refused), "a put without memory says so, and has forgotten the key");
+    const sflight_cache_how how = {.timeout = INT64_C(3600000000000)};
+    sflight_value value;
+    int code = sflight_cache_get_with(cache, (const uint8_t *)"apart", 5, &how, &value);
+    check(code == SFLIGHT_CACHE_LOADED || (was_refused && code == SFLIGHT_CACHE_NO_MEMORY), "a load in another thread without memory says so");
+    sflight_cache_release(cache, &value);
+    check(sflight_cache_statistics(cache).in_use == 0, "no call stays open");
+}
+
+static void test_memory_of_the_rest(void) {
+    struct plan plan = {0};
+    bool is_over = false;
+    for (long number = 1; !is_over; number++) {
+        sflight_cache *cache = sflight_cache_open(&(sflight_cache_options){
+            .limit = 100, .entries = 1, .loads = 1, .load = load, .load_many = load_batch, .drop = drop, .context = &plan});
+        if (!cache) abort();
+        was_refused = false;
+        atomic_store(&refused_number, number);
+        use_without_memory(cache, &plan);
+        is_over = !was_refused;
+        atomic_store(&refused_number, 0);
+        sflight_cache_close(cache);
+        check(live == 0, "all are dropped");
+        if (number > 200) abort();
+    }
 }
 
 static void test_failures(void) {
@@ -569,7 +697,8 @@ static void test_shared(bool fails) {
         askers[i] = (struct asker){.cache = cache, .key = "ada"};
         if (pthread_create(&askers[i].thread, NULL, asks, &askers[i])) abort();
     }
-    while (sflight_cache_statistics(cache).joins < 5) sched_yield();
+    /* A leader may be stopped before it has counted itself, and others join its call meanwhile. */
+    while (loads == 0 || sflight_cache_statistics(cache).joins < 5) sched_yield();
     check(sflight_cache_statistics(cache).in_use == 1, "threads that wait are not in use");
     atomic_store(&plan.held, false);
     int led = 0, joined = 0, lost = 0;
@@ -604,7 +733,7 @@ static void test_shared_refusal(void) {
         pthread_join(askers[i].thread, NULL);
         check(askers[i].code == SFLIGHT_CACHE_NO_MEMORY, "want of memory is shared");
     }
-    check(loads == 0 && live == 0 && atomic_load(&refused_size) == 0, "nothing is loaded");
+    check(loads == 1 && live == 0 && atomic_load(&refused_size) == 0, "what was loaded is dropped");
     check(get_text(cache, "ada") == SFLIGHT_CACHE_LOADED, "and the next get loads");
     check(sflight_cache_statistics(cache).failures == 0, "want of memory is no failure of a load");
     sflight_cache_close(cache);
@@ -721,7 +850,9 @@ int main(void) {
     test_heavy();
     test_seats();
     test_small();
+    test_entries();
     test_memory();
+    test_memory_of_the_rest();
     test_shared(false);
     test_shared(true);
     test_shared_refusal();

@@ -292,6 +292,41 @@ static void threads_and_pools(void) {
     sflight_do_close(pool);
 }
 
+/* A load uses so many pools that its thread gives its seat back, and has another one when the load ends. However often that
+ * happens, one load alone is open at one time, so the pool does not grow. */
+static struct {
+    sflight_pool *pool, *other; /* the thread keeps a seat of one of the two */
+    struct passer passer;
+} changing;
+
+static uint64_t changes_seat(void *context, const uint8_t *key, size_t len) {
+    sflight_got got;
+    (void)context, (void)key, (void)len;
+    if (get(changing.other, "k", plain, NULL, SFLIGHT_DO_FOREVER, &got) != SFLIGHT_DO_DONE) abort();
+    atomic_store(&changing.passer.stage, 2);
+    pthread_join(changing.passer.thread, NULL);
+    return 1;
+}
+
+static void loads_by_two_seats(void) {
+    sflight_pool *pools[NEAR + 1];
+    sflight_got got;
+    unsigned cells = 0;
+    for (int i = 0; i <= NEAR; i++) pools[i] = sflight_do_open(1, NULL);
+    changing.pool = pools[0];
+    changing.other = pools[NEAR];
+    for (int i = 0; i < 50; i++) {
+        get(changing.other, "k", plain, NULL, SFLIGHT_DO_FOREVER, &got);
+        changing.passer = (struct passer){.pools = {changing.pool}, .count = 1};
+        pthread_create(&changing.passer.thread, NULL, passes, &changing.passer);
+        while (atomic_load(&changing.passer.stage) != 1) sched_yield();
+        check(get(changing.pool, "k", changes_seat, NULL, SFLIGHT_DO_FOREVER, &got) == SFLIGHT_DO_DONE, "a load ends by another seat");
+        if (i == 2) cells = atomic_load(&changing.pool->cells);
+    }
+    check(atomic_load(&changing.pool->cells) == cells, "a pool with one load at a time does not grow");
+    for (int i = 0; i <= NEAR; i++) sflight_do_close(pools[i]);
+}
+
 /* So many loads are open at one time, by one thread, that the pool grows several times; each ends as it began. */
 enum { DEEPEST = 2000 };
 
@@ -417,6 +452,7 @@ int main(void) {
     forgotten();
     kept();
     threads_and_pools();
+    loads_by_two_seats();
     deep();
     small();
     printf("%d passed, %d failed\n", passed, failed);

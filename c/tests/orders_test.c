@@ -1,6 +1,6 @@
 /* The orders of examples/orders, whose README tells the format. Each caller is a thread. After each step in which
  * somebody does something, the test waits until nobody goes on by itself: each caller has returned, runs its load,
- * sleeps, or is stopped at a point of the code. To know that, the futex is one of this test: it counts the threads
+ * sleeps, or is stopped at a point of the code. A load behind a get is a thread of its own, next to that caller. To know that, the futex is one of this test: it counts the threads
  * that sleep on a word, and a thread that is woken goes on from that moment. A deadline ends when the order says so.
  * usage: orders_test [FILE..] */
 #ifndef _GNU_SOURCE
@@ -30,7 +30,7 @@ static long order_futex(long number, const void *word, int what, unsigned value,
 
 #include <glob.h>
 
-enum { ACTORS = 8, KEYS = 16, WORDS = 12, LONGEST = 128, NUMBERS = 64, MOST_SECONDS = 60, TO_END = 20, MOST_FILLERS = 100 };
+enum { CALLERS = 8, ACTORS = 2 * CALLERS, ITEMS = 8, KEYS = 16, WORDS = 12, LONGEST = 128, NUMBERS = 64, MOST_SECONDS = 60, TO_END = 20, MOST_FILLERS = 100 };
 #define ERROR UINT64_MAX /* what a load returns that fails */
 #define HOUR INT64_C(3600000000000)
 
@@ -39,8 +39,15 @@ static const char *const points[] = {"before ask", "asked", "before settle", "se
 
 enum state { RUNS, IS_IDLE, IS_LOADING, SLEEPS, HAS_STOPPED };
 static const char *const states[] = {"runs", "is idle", "runs its load", "sleeps", "is stopped"};
-enum what { NOTHING, ASKS, ASKS_WITH_DEADLINE, FORGETS, RETURNS, FAILS, ENDS };
-enum got { NONE, HAS_VALUE, HAS_ERROR, HAS_LEFT };
+enum what { NOTHING, ASKS, ASKS_MANY, ASKS_WITH_DEADLINE, FORGETS, FORGETS_TAG, PUTS, RETURNS, FAILS, ENDS };
+enum got { NONE, HAS_VALUE, HAS_ERROR, HAS_LEFT, HAS_NOTHING, HAS_PUT };
+
+/* A key of a batch, and what came of it. */
+struct item {
+    char key[LONGEST];
+    enum got got;
+    uint64_t value;
+};
 
 struct world;
 
@@ -51,8 +58,13 @@ struct actor {
     pthread_t thread;
     enum state state;
     enum what command;
-    char key[LONGEST], stop[LONGEST];
+    char key[LONGEST], stop[LONGEST], tag[LONGEST];
     uint64_t number;
+    struct item items[ITEMS], returned[ITEMS], batch[ITEMS]; /* what it asks for, what its load returns, and for which keys */
+    int item_count, returned_count, batch_count;
+    /* A load behind a get runs in a thread of its own. */
+    void (*run)(void *work);
+    void *work;
     /* Since it asked: whether its deadline has ended, whether its load has begun and no step has said so yet, whether
      * it has run a load, and whether it has slept. */
     bool may_leave, is_late, begun, loaded, joined;
@@ -75,6 +87,8 @@ struct world {
     struct { char key[LONGEST]; uint64_t loads; } keys[KEYS];
     uint64_t given, received; /* counts of values, by joiners */
     int64_t live;             /* values of a cache */
+    sflight_cache_options options;
+    int64_t time;             /* of its clock */
     int fillers;
     bool is_over; /* nobody waits any more, since the order has failed */
 };
@@ -125,7 +139,8 @@ static long order_futex(long number, const void *word, int what, unsigned value,
     }
     bool is_changed = __atomic_load_n((const unsigned *)word, __ATOMIC_SEQ_CST) != value;
     me->is_woken = false;
-    if (!is_changed && !(deadline && me->is_late)) {
+    /* A deadline of 0 has passed: such a caller does not wait. */
+    if (!is_changed && !(deadline && (me->is_late || deadline->tv_sec == 0))) {
         me->word = word;
         me->which = which;
         me->joined |= which == FOR_VALUE;
@@ -160,14 +175,67 @@ static uint64_t order_load(void *context, const uint8_t *key, size_t len) {
     return serve(IS_LOADING) == RETURNS ? me->number : ERROR;
 }
 
-static void *order_cache_load(void *context, const uint8_t *key, size_t len, uint64_t *weight) {
-    uint64_t value = order_load(context, key, len);
-    (void)weight;
-    if (value == ERROR) return NULL;
+static void new_value(sflight_cache_loaded *loaded, uint64_t value) {
     take_lock(me->world);
     me->world->live++;
     give_lock(me->world);
-    return &numbers[value];
+    loaded->value = &numbers[value];
+    if (me->tag[0]) sflight_cache_add_tag(loaded, (const uint8_t *)me->tag, strlen(me->tag));
+}
+
+static int order_cache_load(void *context, const uint8_t *key, size_t len, sflight_cache_loaded *loaded) {
+    uint64_t value = order_load(context, key, len);
+    if (value == ERROR) return SFLIGHT_CACHE_FAILED;
+    new_value(loaded, value);
+    return SFLIGHT_CACHE_LOADED;
+}
+
+static void order_load_many(void *context, sflight_cache_loading *loadings, size_t count) {
+    (void)context;
+    if (count > ITEMS) abort();
+    take_lock(me->world);
+    me->batch_count = (int)count;
+    for (size_t i = 0; i < count; i++) {
+        memset(me->batch[i].key, 0, LONGEST);
+        memcpy(me->batch[i].key, loadings[i].key, loadings[i].len);
+        ++*loads_of(me->world, me->batch[i].key);
+    }
+    me->begun = me->loaded = true;
+    give_lock(me->world);
+    bool returns = serve(IS_LOADING) == RETURNS;
+    for (size_t i = 0; i < count; i++) {
+        if (!returns) loadings[i].code = SFLIGHT_CACHE_FAILED;
+        if (!returns || (int)i >= me->returned_count || me->returned[i].got == HAS_NOTHING) continue;
+        loadings[i].code = SFLIGHT_CACHE_LOADED;
+        new_value(&loadings[i].loaded, me->returned[i].value);
+    }
+}
+
+static int64_t order_clock(void *context, bool is_wall) {
+    (void)context, (void)is_wall;
+    return __atomic_load_n(&played->time, __ATOMIC_SEQ_CST);
+}
+
+static void *act_behind(void *actor) {
+    me = actor;
+    me->run(me->work);
+    take_lock(me->world);
+    me->state = IS_IDLE;
+    pthread_cond_broadcast(&me->world->changed);
+    give_lock(me->world);
+    return NULL;
+}
+
+static bool order_start(void *context, void (*run)(void *work), void *work) {
+    struct actor *behind = me + CALLERS;
+    (void)context;
+    if (me - me->world->actors >= CALLERS) return false;
+    if (behind->is_there) pthread_join(behind->thread, NULL);
+    take_lock(me->world);
+    *behind = (struct actor){.world = me->world, .name = me->name, .is_there = true, .state = RUNS, .run = run, .work = work};
+    give_lock(me->world);
+    if (pthread_create(&behind->thread, NULL, act_behind, behind)) abort();
+    return true;
 }
 
 static void order_drop(void *context, void *value) {
@@ -202,6 +270,8 @@ static void ask_for(bool may_leave) {
         code = sflight_cache_get(w->cache, (const uint8_t *)key, len, &value);
         got.value = code == SFLIGHT_CACHE_FAILED ? ERROR : (uint64_t)((char *)value.at - numbers);
         sflight_cache_release(w->cache, &value);
+        /* What stands in for a failed load is loaded by whoever has led that. */
+        if (code == SFLIGHT_CACHE_STALE) code = me->loaded ? SFLIGHT_CACHE_LOADED : SFLIGHT_CACHE_JOINED;
     } else {
         code = sflight_do(w->pool, (const uint8_t *)key, len, order_load, NULL, may_leave ? HOUR : SFLIGHT_DO_FOREVER, &got);
     }
@@ -210,7 +280,7 @@ static void ask_for(bool may_leave) {
         printf("FAILED: two results of %c\n", me->name);
         exit(1);
     }
-    me->got = !w->cache && code == SFLIGHT_DO_TIMED_OUT ? HAS_LEFT : got.value == ERROR ? HAS_ERROR : HAS_VALUE;
+    me->got = !w->cache && code == SFLIGHT_DO_TIMED_OUT ? HAS_LEFT : got.value == ERROR ? HAS_ERROR : w->cache && code == SFLIGHT_CACHE_MISSING ? HAS_NOTHING : HAS_VALUE;
     if (!w->cache) {
         bool is_right = me->got == HAS_LEFT || (code == SFLIGHT_DO_DONE && got.led == me->loaded && (got.led || got.joiners > 0));
         me->got = is_right ? me->got : NONE;
@@ -225,6 +295,38 @@ static void ask_for(bool may_leave) {
     give_lock(w);
 }
 
+/* Gets the keys of a batch. */
+static void ask_for_many(void) {
+    struct world *w = me->world;
+    sflight_cache_item items[ITEMS];
+    struct item got[ITEMS];
+    int count = me->item_count;
+    for (int i = 0; i < count; i++) {
+        got[i] = me->items[i];
+        items[i] = (sflight_cache_item){.key = (const uint8_t *)got[i].key, .len = strlen(got[i].key)};
+    }
+    sflight_cache_get_many(w->cache, items, (size_t)count, NULL);
+    for (int i = 0; i < count; i++) {
+        bool has_value = sflight_cache_has_value(items[i].code);
+        got[i].got = has_value ? HAS_VALUE : items[i].code == SFLIGHT_CACHE_MISSING ? HAS_NOTHING : HAS_ERROR;
+        got[i].value = has_value ? (uint64_t)((char *)items[i].value.at - numbers) : 0;
+        sflight_cache_release(w->cache, &items[i].value);
+    }
+    take_lock(w);
+    memcpy(me->items, got, sizeof got);
+    me->item_count = count;
+    give_lock(w);
+}
+
+static void put(void) {
+    struct world *w = me->world;
+    sflight_cache_loaded l = sflight_cache_of_value(w->cache, NULL);
+    me->tag[0] = 0;
+    new_value(&l, me->number);
+    me->code = sflight_cache_put(w->cache, (const uint8_t *)me->key, strlen(me->key), &l, NULL);
+    me->got = HAS_PUT;
+}
+
 /* Obeys the order's steps, until one ends the load that this is, or all. */
 static enum what serve(enum state state) {
     struct world *w = me->world;
@@ -237,6 +339,9 @@ static enum what serve(enum state state) {
         switch (command) {
         case ASKS:
         case ASKS_WITH_DEADLINE: ask_for(command == ASKS_WITH_DEADLINE); break;
+        case ASKS_MANY: ask_for_many(); break;
+        case PUTS: put(); break;
+        case FORGETS_TAG: sflight_cache_forget_tag(w->cache, (const uint8_t *)me->tag, strlen(me->tag)); break;
         case FORGETS:
             me->forgot = NULL;
             if (w->cache && !me->key[0]) sflight_cache_forget_all(w->cache);
@@ -297,7 +402,7 @@ static struct actor *actor_of(struct world *w, char name) {
 }
 
 static bool it_does(struct actor *a) {
-    static const char *const gots[] = {"", ", and has a value", ", and has an error", ", and has left"};
+    static const char *const gots[] = {"", ", and has a value", ", and has an error", ", and has left", ", and has nothing", ", and has put"};
     return wrong("%c %s%s: %llu, %s, %u joiners", a->name, states[a->state], gots[a->got], (unsigned long long)a->result.value,
                  a->result.led ? "led" : "not led", a->result.joiners);
 }
@@ -343,6 +448,87 @@ static int tables(struct world *w) {
     return n;
 }
 
+enum came { IS_NONE, IS_WELL, IS_WRONG };
+static enum came came(bool is_well) { return is_well ? IS_WELL : IS_WRONG; }
+
+/* The load that runs behind the caller, if it runs none itself. */
+static struct actor *behind(struct actor *a) {
+    struct actor *it = a + CALLERS;
+    return a->state == IS_IDLE && it->is_there && it->state == IS_LOADING ? it : a;
+}
+
+static bool is_key(const char *it) { return it[0] >= 'k' && it[0] <= 'z'; }
+
+/* Whether the words from here on are keys; they are written there. */
+static bool are_keys(int from, struct item *to) {
+    if (from >= length || length - from > ITEMS) return false;
+    for (int i = from; i < length; i++) {
+        if (!is_key(words[i])) return false;
+        to[i - from] = (struct item){.got = NONE};
+        strcpy(to[i - from].key, words[i]);
+    }
+    return true;
+}
+
+/* Whether the words from here on are numbers, or say that there is nothing. */
+static bool are_numbers(int from, struct item *to) {
+    if (from >= length || length - from > ITEMS) return false;
+    for (int i = from; i < length; i++) {
+        char *end;
+        bool is_nothing = strcmp(words[i], "nothing") == 0;
+        uint64_t value = is_nothing ? 0 : strtoull(words[i], &end, 10);
+        if (!is_nothing && (*end || value >= NUMBERS)) return false;
+        to[i - from] = (struct item){.got = is_nothing ? HAS_NOTHING : HAS_VALUE, .value = value};
+    }
+    return true;
+}
+
+/* The first two words are a caller and this. */
+static bool it_is_said(const char *what) {
+    if (length < 2 || words[0][0] < 'a' || words[0][0] > 'h' || words[0][1] || strcmp(words[1], what) != 0) return false;
+    actor_name = words[0][0];
+    return true;
+}
+
+/* A step of a cache's own in which somebody does something. */
+static enum came acts_on_cache(struct world *w) {
+    struct item items[ITEMS];
+    struct actor *a;
+    if (is("the clock goes on by N")) {
+        __atomic_fetch_add(&w->time, (int64_t)number * 1000000000, __ATOMIC_SEQ_CST);
+        return IS_WELL;
+    }
+    if (is("A forgets tag W") || is("A puts N at K")) {
+        bool puts = strcmp(words[1], "puts") == 0;
+        if (!(a = actor_of(w, actor_name))) return IS_WRONG;
+        if (a->state == IS_IDLE || a->state == IS_LOADING) strcpy(puts ? a->key : a->tag, puts ? key : word);
+        if (puts) a->number = number;
+        return came(tell(w, a, puts ? PUTS : FORGETS_TAG));
+    }
+    if (length > 3 && it_is_said("asks") && are_keys(2, items)) {
+        if (!(a = actor_of(w, actor_name))) return IS_WRONG;
+        if (a->state == IS_IDLE || a->state == IS_LOADING) {
+            memcpy(a->items, items, sizeof items);
+            a->item_count = length - 2;
+        }
+        return came(tell(w, a, ASKS_MANY));
+    }
+    bool has_tag = is("A returns N with tag W");
+    if (has_tag || (it_is_said("returns") && are_numbers(2, items))) {
+        if (has_tag) items[0] = (struct item){.got = HAS_VALUE, .value = number};
+        if (!(a = actor_of(w, actor_name))) return IS_WRONG;
+        a = behind(a);
+        if (a->state == IS_LOADING) {
+            a->number = items[0].value;
+            memcpy(a->returned, items, sizeof items);
+            a->returned_count = has_tag ? 1 : length - 2;
+            strcpy(a->tag, has_tag ? word : "");
+        }
+        return came(tell(w, a, RETURNS));
+    }
+    return IS_NONE;
+}
+
 /* Loads, each inside the one before, until the pool has grown. */
 static uint64_t fill(void *context, const uint8_t *name, size_t len) {
     int before = *(int *)context;
@@ -355,14 +541,13 @@ static uint64_t fill(void *context, const uint8_t *name, size_t len) {
     return 0;
 }
 
-enum came { IS_NONE, IS_WELL, IS_WRONG };
-static enum came came(bool is_well) { return is_well ? IS_WELL : IS_WRONG; }
-
 /* A step in which somebody does something. */
 static enum came acts(struct world *w) {
     struct actor *a;
     bool may_leave = false;
     bool forgets_all = w->cache && is("A forgets all");
+    enum came it = w->cache ? acts_on_cache(w) : IS_NONE;
+    if (it != IS_NONE) return it;
     if (is("A asks K") || (may_leave = is("A asks K with a deadline")) || is("A forgets K") || forgets_all) {
         if (!(a = actor_of(w, actor_name))) return IS_WRONG;
         if (forgets_all) key = "";
@@ -371,6 +556,7 @@ static enum came acts(struct world *w) {
     }
     if (is("A returns N") || is("A fails")) {
         if (!(a = actor_of(w, actor_name))) return IS_WRONG;
+        a = behind(a);
         if (a->state == IS_LOADING) a->number = number;
         return came(tell(w, a, length == 3 ? RETURNS : FAILS));
     }
@@ -431,10 +617,58 @@ static enum came says_result(struct world *w) {
     return IS_WELL;
 }
 
+/* A step that says what came of one key of a batch; or of one key that was asked for alone. */
+static enum came says_item(struct world *w) {
+    bool is_error = is("A has an error at K"), is_alone = is("A has nothing"), is_nothing = is_alone || is("A has nothing at K");
+    enum got got = is_error ? HAS_ERROR : is_nothing ? HAS_NOTHING : HAS_VALUE;
+    if (!is_error && !is_nothing && !is("A has N at K")) return IS_NONE;
+    struct actor *a = actor_of(w, actor_name);
+    if (!a) return IS_WRONG;
+    for (int i = 0; i < a->item_count && !is_alone; i++) {
+        struct item *it = &a->items[i];
+        if (strcmp(it->key, key) != 0 || it->got == NONE) continue;
+        if (it->got != got || (got == HAS_VALUE && it->value != number)) return came(wrong("it has %d, %llu", it->got, (unsigned long long)it->value));
+        it->got = NONE;
+        return IS_WELL;
+    }
+    if (a->got != got || (!is_alone && strcmp(a->key, key) != 0)) return came(it_does(a));
+    a->got = NONE;
+    return IS_WELL;
+}
+
+/* A step of a cache's own that says what has come of those before. */
+static enum came says_of_cache(struct world *w) {
+    struct item items[ITEMS];
+    struct actor *a;
+    bool kept = is("A has kept it");
+    if (kept || is("A has not kept it")) {
+        if (!(a = actor_of(w, actor_name))) return IS_WRONG;
+        if (a->got != HAS_PUT || a->code != kept) return came(it_does(a));
+        a->got = NONE;
+        return IS_WELL;
+    }
+    if (is("A refreshes")) {
+        if (!(a = actor_of(w, actor_name))) return IS_WRONG;
+        if (behind(a) == a || !behind(a)->begun) return came(it_does(a));
+        behind(a)->begun = false;
+        return IS_WELL;
+    }
+    if (length > 2 && it_is_said("leads") && are_keys(2, items)) {
+        if (!(a = actor_of(w, actor_name))) return IS_WRONG;
+        bool is_well = a->begun && a->state == IS_LOADING && a->batch_count == length - 2;
+        for (int i = 0; is_well && i < a->batch_count; i++) is_well = strcmp(a->batch[i].key, items[i].key) == 0;
+        a->begun = a->begun && !is_well;
+        return came(is_well || it_does(a));
+    }
+    return says_item(w);
+}
+
 /* A step that says what has come of those before. */
 static enum came says(struct world *w) {
     struct actor *a;
     bool is_it = true;
+    enum came it = w->cache ? says_of_cache(w) : IS_NONE;
+    if (it != IS_NONE) return it;
     if (is("A leads")) {
         if (!(a = actor_of(w, actor_name)) || !a->begun || a->got || a->state != IS_LOADING) return a ? came(it_does(a)) : IS_WRONG;
         a->begun = false;
@@ -501,15 +735,29 @@ static int is_ours(int from) {
 
 static struct world *open_world(bool is_cache) {
     struct world *w = calloc(1, sizeof *w);
-    const sflight_cache_options options = {.limit = 100, .entries = 100, .loads = 1, .load = order_cache_load, .drop = order_drop};
     if (!w) abort();
+    w->options = (sflight_cache_options){.limit = 100, .entries = 100, .loads = 1, .load = order_cache_load, .load_many = order_load_many,
+                                         .drop = order_drop, .clock = order_clock, .start = order_start};
+    w->time = 1;
     pthread_mutex_init(&w->lock, NULL);
     pthread_cond_init(&w->changed, NULL);
     played = w;
-    if (is_cache) w->cache = sflight_cache_open(&options);
+    if (is_cache) w->cache = sflight_cache_open(&w->options);
     else w->pool = sflight_do_open(1, order_share);
     if (!w->cache && !w->pool) abort();
     return w;
+}
+
+/* A line after the first that is an option of the cache, in which nothing has been done yet. */
+static enum came takes_option(struct world *w) {
+    int64_t *to = is("values live for N") ? &w->options.ttl : is("values are refreshed after N") ? &w->options.refresh_after
+        : is("values are stale for N") ? &w->options.stale_if_error : is("errors are kept for N") ? &w->options.failed_ttl : NULL;
+    if (!to || !w->cache) return IS_NONE;
+    for (int i = 0; i < ACTORS; i++) if (w->actors[i].is_there) return came(wrong("the options come first"));
+    *to = (int64_t)number * 1000000000;
+    sflight_cache_close(w->cache);
+    w->cache = sflight_cache_open(&w->options);
+    return came(w->cache != NULL || wrong("it cannot be opened"));
 }
 
 /* Ends the threads, whatever they do, and frees the world. Returns whether all is given back. A thread that hangs is left. */
@@ -524,7 +772,7 @@ static bool close_world(struct world *w) {
     for (int i = 0; i < ACTORS; i++) {
         if (!w->actors[i].is_there || pthread_timedjoin_np(w->actors[i].thread, NULL, &end) == 0) continue;
         hangs = true;
-        return wrong("%c does not end", 'a' + i);
+        return wrong("%c does not end", w->actors[i].name);
     }
     uint64_t run = w->cache ? sflight_cache_statistics(w->cache).in_use : sflight_do_statistics(w->pool).in_use;
     if (w->cache) sflight_cache_close(w->cache);
@@ -544,6 +792,7 @@ static bool is_at_rest(struct world *w) {
         struct actor *a = &w->actors[i];
         if (!a->is_there) continue;
         if (a->state != IS_IDLE || a->got != NONE) return it_does(a);
+        for (int n = 0; n < a->item_count; n++) if (a->items[n].got != NONE) return wrong("nobody looked at what %c has at %s", a->name, a->items[n].key);
         if (a->stop[0]) return wrong("%c has not come to its stop: %s", a->name, a->stop);
     }
     return true;
@@ -588,7 +837,8 @@ static bool play(const char *name, char *text) {
             length = 0;
         }
         if (is_well && ours > 0 && length > 0) {
-            enum came it = acts(w);
+            enum came it = takes_option(w);
+            if (it == IS_NONE) it = acts(w);
             if (it == IS_NONE) it = says(w);
             if (it == IS_NONE) wrong("this is no step");
             is_well = it == IS_WELL;

@@ -70,7 +70,7 @@ using keeps = void (*)(void *, const std::uint8_t *, std::size_t, std::uint64_t,
 static_assert(!std::is_convertible<keeps, sflight_keep *>::value, "a cache that keeps throws nothing");
 using writes = int (*)(void *, const char *, std::size_t);
 static_assert(!std::is_convertible<writes, sflight_write *>::value, "a writer throws nothing");
-using gets = void *(*)(void *, const std::uint8_t *, std::size_t, std::uint64_t *);
+using gets = int (*)(void *, const std::uint8_t *, std::size_t, sflight_cache_loaded *);
 static_assert(!std::is_convertible<gets, sflight_cache_load *>::value, "a load throws nothing");
 using drops = void (*)(void *, void *);
 static_assert(!std::is_convertible<drops, decltype(sflight_cache_options::drop)>::value,
@@ -85,8 +85,9 @@ static bool by_a_cache() {
     options.limit = 10;
     options.entries = 10;
     options.load = [](void *, const std::uint8_t *key, std::size_t len,
-                      std::uint64_t *) noexcept -> void * {
-        return new std::string(reinterpret_cast<const char *>(key), len);
+                      sflight_cache_loaded *loaded) noexcept -> int {
+        loaded->value = new std::string(reinterpret_cast<const char *>(key), len);
+        return SFLIGHT_CACHE_LOADED;
     };
     options.drop = [](void *, void *value) noexcept { delete static_cast<std::string *>(value); };
     sflight_cache *cache = sflight_cache_open(&options);

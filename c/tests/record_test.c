@@ -694,7 +694,7 @@ static void forgets(void) {
     check(forget.closed, "the Forget has closed the call");
     expect(&log, "which waits for its times", LEADS("A", "k", "1000", "1100") CLOSES("A", "k", "2000", "4000") SETTLES("A", "0", "3000", "3100"));
 
-    /* The same, and the recording is over before the Forget is. */
+    /* A Forget closes a call of a recording that is over before the Forget is. */
     closed = (struct gate){0};
     loading = (struct gate){0};
     record(pool, &log);

@@ -174,7 +174,7 @@ func leastAndMedian(run func() float64) string {
 	return fmt.Sprintf("%.0f (%.0f)", all[0], all[len(all)/2])
 }
 
-// The same of both, whose rounds alternate.
+// both measures the two groups in rounds that alternate, and returns the least and the median of each.
 func both(run func(g group) float64) (own, other string) {
 	var others []float64
 	own = leastAndMedian(func() float64 {

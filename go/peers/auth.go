@@ -71,7 +71,7 @@ func mac(key []byte, parts ...[]byte) []byte {
 }
 
 // sign signs the parts, with the time and a random number where they are a request; text is what
-// goes along.
+// goes along. The parts are of the message and not of HTTP, so that it holds over any Transport.
 func (k keys) sign(now time.Time, parts ...[]byte) (text string) {
 	var nonce [8]byte
 	binary.BigEndian.PutUint64(nonce[:], randomNumber())

@@ -415,7 +415,7 @@ func TestAnOwnerThatIsSilent(t *testing.T) {
 			t.Errorf("once it answers: %v", err)
 		}
 	}
-	// The same, where an asking finds it.
+	// A peer that is silent again is skipped no more once an asking finds that it answers.
 	asks()
 	asks()
 	if may, end := a.figures.mayAsk(name); !may {

@@ -310,8 +310,8 @@ func TestAMemberThatHearsNothing(t *testing.T) {
 	}
 }
 
-// And where it knows a process that joined by the name of the last one, which it may hear of first
-// that it has ended.
+// A member that knows the last process of a name asks the Coordinator, too, where the next process of
+// that name sends it something: it may not have heard yet that the last one has ended.
 func TestAMemberThatHearsOfALaterProcess(t *testing.T) {
 	m, by := newMesh(), newAgreed()
 	_, b, c := joinAll(t, m, by, time.Minute)
@@ -331,7 +331,7 @@ func TestAMemberThatHearsOfALaterProcess(t *testing.T) {
 	}
 }
 
-// The same, where it has heard from another member of the one that joined.
+// A member that has heard of one that joined from another member tells that one of its Forgets.
 func TestAMemberThatHearsOfOneThatJoins(t *testing.T) {
 	m, by := newMesh(), newAgreed()
 	a, b, _ := joinAll(t, m, by, time.Minute)

@@ -62,8 +62,8 @@ func TestAForgetOfAProcessThatWasRestored(t *testing.T) {
 	}
 }
 
-// The same, where nothing was forgotten after it was restored: the others notice that it has fewer
-// changes than they know of.
+// A process that was restored begins again although nothing was forgotten afterwards: the others
+// notice that it has fewer changes than they know of.
 func TestAProcessThatWasRestoredBeginsAgain(t *testing.T) {
 	m := newMesh()
 	a, b, c := beginAll(t, m, time.Minute)
@@ -85,8 +85,8 @@ func TestAProcessThatWasRestoredBeginsAgain(t *testing.T) {
 	}
 }
 
-// A process that is started again counts its changes anew. Who asks it for what came after a change of
-// the last process is told all of them.
+// A process that is started again counts its changes anew. A peer that asks it for what came after a
+// change of the last process is told all of them.
 func TestChangesOfAProcessThatIsStartedAgain(t *testing.T) {
 	m := newMesh()
 	a, b, _ := beginAll(t, m, time.Minute)

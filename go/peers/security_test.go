@@ -333,7 +333,7 @@ func TestBadRequestsChangeNothing(t *testing.T) {
 	if got := ask(t, a, of(number+","+key(MostKeyBytes))); got.Refused != "" {
 		t.Errorf("a key of the most bytes: %v", got.Refused)
 	}
-	// The same in what a peer tells of its changes.
+	// A reply is not taken if it tells of a change that no peer may send.
 	for _, text := range []string{`{"of":3,"own":[{"peer":"b","start":18446744073709551615,"count":1}]}`,
 		`{"cache":"/","key":"Nw==","own":[]}`} {
 		text := text

@@ -16,7 +16,7 @@ import (
 	ours "sf.example/singleflight"
 )
 
-// The same calls of both packages.
+// A group has the calls that both packages have.
 type group interface {
 	Do(key string, fn func() (any, error)) (any, error, bool)
 	Forget(key string)

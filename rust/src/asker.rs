@@ -2,9 +2,9 @@
 
 use crate::keyed;
 use crate::post::{Post, Ticket, Told};
-use crate::recording::CallRecord;
+use crate::recording::{CallRecord, ValueRecord};
 use crate::shared::{Crowded, Join, Shared};
-use crate::sync::pause;
+use crate::sync::{instant, pause};
 use crate::{Call, Loaded, Stamp};
 use std::future::{poll_fn, Future};
 use std::sync::Arc;
@@ -19,14 +19,25 @@ pub(crate) struct Asker<T> {
     pub(crate) name: Call,
     /// If it is recorded.
     pub(crate) record: Option<Arc<CallRecord>>,
-    // Where the receiver of a job waits for what it loads.
+    /// The record of its value, if it is a call of a cache that is recorded.
+    pub(crate) value: Option<Arc<ValueRecord>>,
+    // Where the receiver of a job waits for what it loads. It does not join the call in the library,
+    // which would make the value a shared one.
     own: Option<Arc<Post<T>>>,
     /// Of the answer that it got last.
     pub(crate) last: Option<Stamp>,
 }
 
+/// What a load is told of its call.
+pub(crate) struct Leads {
+    /// That its value will have, unless the call is forgotten before it is settled.
+    pub(crate) stamp: Stamp,
+    /// Of a cache that is recorded.
+    pub(crate) record: Option<Arc<ValueRecord>>,
+}
+
 /// Ends the load that its asker runs. Where that ends without a value, as by a panic, the call is
-/// settled with nothing, so that who joined asks again.
+/// settled with nothing, so that each caller that joined asks again.
 struct Load<'a, T>(&'a mut Asker<T>, &'a Shared<T>);
 
 impl<T> Load<'_, T> {
@@ -54,31 +65,37 @@ impl<T> Drop for Load<'_, T> {
 impl<T> Asker<T> {
     #[inline]
     pub(crate) fn new() -> Self {
-        Asker { lead: None, name: Call::NONE, record: None, own: None, last: None }
+        Asker { lead: None, name: Call::NONE, record: None, value: None, own: None, last: None }
     }
 
     /// Asks for the key, again where its call is crowded. Returns the call that it has joined, or
-    /// none where it has to load.
+    /// none where it has to load; or that the call was crowded until the deadline.
     #[inline]
-    pub(crate) fn ask(&mut self, shared: &Shared<T>, key: &[u8]) -> Option<Join> {
+    pub(crate) fn ask(
+        &mut self,
+        shared: &Shared<T>,
+        key: &[u8],
+        deadline: Option<Instant>,
+    ) -> Result<Option<Join>, Crowded> {
         let mut tries = 0;
         loop {
             match shared.ask(key, self) {
-                Ok(join) => return join,
-                Err(Crowded) => pause(&mut tries),
+                Err(Crowded) if deadline.is_none_or(|deadline| instant() < deadline) => {
+                    pause(&mut tries);
+                }
+                asked => return asked,
             }
         }
     }
 
-    /// The load that it has to run, and the stamp that its value will have, unless its call is
-    /// forgotten before it is settled.
+    /// The load that it has to run, and what that is told.
     #[inline]
-    fn load<'a>(&'a mut self, shared: &'a Shared<T>) -> (Load<'a, T>, Stamp) {
+    fn load<'a>(&'a mut self, shared: &'a Shared<T>) -> (Load<'a, T>, Leads) {
         if let Some(record) = &self.record {
             record.leads();
         }
-        let stamp = self.name.stamp;
-        (Load(self, shared), stamp)
+        let leads = Leads { stamp: self.name.stamp, record: self.value.clone() };
+        (Load(self, shared), leads)
     }
 
     /// Which call it leads.
@@ -116,43 +133,46 @@ impl<T> Asker<T> {
     }
 
     /// Gets the key, by the load or from a call of another: none where that takes longer than until
-    /// the deadline. The load is told the stamp that its value will have.
+    /// the deadline.
     #[inline]
     pub(crate) fn get(
         &mut self,
         shared: &Shared<T>,
         key: &[u8],
         deadline: Option<Instant>,
-        load: impl FnOnce(Stamp) -> T,
+        load: impl FnOnce(Leads) -> T,
     ) -> Option<Loaded<T>> {
-        while let Some(join) = self.ask(shared, key) {
-            let ticket = Ticket::new(shared, join);
-            if !ticket.wait(deadline) {
+        loop {
+            let ticket = match self.ask(shared, key, deadline) {
+                Ok(None) => return Some(self.run(shared, load)),
+                Ok(Some(join)) => Some(Ticket::new(shared, join)),
+                Err(Crowded) => None,
+            };
+            let Some(ticket) = ticket.filter(|ticket| ticket.wait(deadline)) else {
                 self.last = None;
                 return None;
-            }
+            };
             if let Some(got) = ticket.read() {
                 self.last = Some(got.stamp());
                 return Some(got);
             }
         }
-        Some(self.run(shared, load))
     }
 
     /// Runs the load that it has to run.
     #[inline]
-    pub(crate) fn run(&mut self, shared: &Shared<T>, load: impl FnOnce(Stamp) -> T) -> Loaded<T> {
-        let (guard, stamp) = self.load(shared);
-        let value = load(stamp);
+    pub(crate) fn run(&mut self, shared: &Shared<T>, load: impl FnOnce(Leads) -> T) -> Loaded<T> {
+        let (guard, leads) = self.load(shared);
+        let value = load(leads);
         guard.end(value)
     }
 
-    /// The same in a task.
+    /// Gets the key in a task, by the load or from a call of another.
     pub(crate) async fn get_async<F: Future<Output = T>>(
         &mut self,
         shared: &Shared<T>,
         key: &[u8],
-        load: impl FnOnce(Stamp) -> F,
+        load: impl FnOnce(Leads) -> F,
     ) -> Loaded<T> {
         loop {
             let join = match shared.ask(key, self) {
@@ -179,11 +199,11 @@ impl<T> Asker<T> {
     pub(crate) async fn run_async<F: Future<Output = T>>(
         &mut self,
         shared: &Shared<T>,
-        load: impl FnOnce(Stamp) -> F,
+        load: impl FnOnce(Leads) -> F,
     ) -> Loaded<T> {
-        let (guard, stamp) = self.load(shared);
+        let (guard, leads) = self.load(shared);
         // The load is dropped here, before its call is settled: so it has ended when another begins.
-        let value = load(stamp).await;
+        let value = load(leads).await;
         guard.end(value)
     }
 }

@@ -1,8 +1,10 @@
 //! Calls whose value comes to a receiver, and whose load is a job.
 
+use crate::asker::Leads;
 use crate::post::Ticket;
-use crate::shared::Shared;
-use crate::{Call, Caller, Loaded, Stamp};
+use crate::recording::ValueRecord;
+use crate::shared::{Crowded, Join, Shared};
+use crate::{Call, Caller, Loaded};
 use std::fmt;
 use std::future::Future;
 use std::pin::Pin;
@@ -34,7 +36,25 @@ impl<T> Leader<'_, T> {
 impl<'a, T> Job<'a, T> {
     pub(crate) fn subscribe(mut leader: Leader<'a, T>, key: &[u8]) -> (Receiver<T>, Option<Self>) {
         let Caller { shared, asker } = leader.caller();
-        if let Some(join) = asker.ask(shared, key) {
+        let asked = asker.ask(shared, key, None);
+        let join = asked.unwrap_or_else(|Crowded| unreachable!("there is no deadline"));
+        Self::asked(leader, join)
+    }
+
+    /// As `subscribe`, where it would not wait for others to leave the call.
+    pub(crate) fn try_subscribe(
+        mut leader: Leader<'a, T>,
+        key: &[u8],
+    ) -> Result<(Receiver<T>, Option<Self>), Crowded> {
+        let Caller { shared, asker } = leader.caller();
+        let join = shared.ask(key, asker)?;
+        Ok(Self::asked(leader, join))
+    }
+
+    /// It has asked, and has joined that call, or has to load.
+    fn asked(mut leader: Leader<'a, T>, join: Option<Join>) -> (Receiver<T>, Option<Self>) {
+        let Caller { shared, asker } = leader.caller();
+        if let Some(join) = join {
             return (Receiver(Some(Ticket::new(shared.clone(), join))), None);
         }
         (Receiver(Some(Ticket::of(asker.own()))), Some(Job(leader)))
@@ -69,10 +89,18 @@ impl<'a, T> Job<'a, T> {
         self.run_with(|_| load())
     }
 
-    /// The same, with the stamp that the value will have.
-    pub(crate) fn run_with(mut self, load: impl FnOnce(Stamp) -> T) -> Loaded<T> {
+    /// Runs the load, which is told of its call, and settles the call with its value.
+    pub(crate) fn run_with(mut self, load: impl FnOnce(Leads) -> T) -> Loaded<T> {
         let Caller { shared, asker } = self.0.caller();
         asker.run(shared, load)
+    }
+
+    /// The record of the call, if it is one of a cache that is recorded.
+    pub(crate) fn record(&self) -> Option<&Arc<ValueRecord>> {
+        match &self.0 {
+            Leader::Own(caller) => caller.asker.value.as_ref(),
+            Leader::Lent(caller) => caller.asker.value.as_ref(),
+        }
     }
 
     /// Awaits the load, settles the call with its value, and returns that value. If the future is

@@ -1,6 +1,7 @@
 //! The keyed group, by one of two bodies: the library, which is proved machine code, or plain Rust
-//! where that does not run. `build.rs` says which. A body decides who leads the load of a key, who
-//! joins it, what a Forget ends and what is current. It runs no load, and nobody sleeps in it.
+//! where that does not run. `build.rs` says which. A body decides which caller leads the load of a
+//! key, which ones join it, what a Forget ends and what is current. It runs no load, and nobody
+//! sleeps in it.
 
 #[cfg(sflight_library)]
 mod library;
@@ -20,7 +21,7 @@ pub(crate) struct Id {
     pub(crate) generation: u64,
 }
 
-/// Who is told of a settled call.
+/// The callers that are told of a settled call.
 #[repr(C)]
 #[derive(Clone, Copy, Debug, Default, PartialEq, Eq)]
 pub(crate) struct Audience {

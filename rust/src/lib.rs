@@ -44,7 +44,10 @@
 //!
 //! # Values in a cache
 //!
-//! A [`Stamp`] tells whether a value may still be used. Ask [`Group::is_current`] before you put a
+//! A [`Cache`] keeps the values of loads within a limit, and never returns one from before an
+//! invalidation. It has lifetimes, refreshes in the background, batches and tags.
+//!
+//! For a cache of your own: a [`Stamp`] tells whether a value may still be used. Ask [`Group::is_current`] before you put a
 //! value into the cache: the key may have been forgotten while the value was loaded. Ask again when
 //! you take the value out: a caller that has learned of a Forget then gets `false` for all values
 //! loaded before it.
@@ -111,6 +114,9 @@ mod sync;
 mod sync;
 
 #[cfg(test)]
+#[path = "../tests/judge/mod.rs"]
+mod judge;
+#[cfg(test)]
 mod orders;
 
 /// The example of the README.
@@ -119,12 +125,14 @@ mod orders;
 struct Readme;
 
 use asker::Asker;
-pub use cache::{Cache, CacheBuilder, CacheStats, WriteToken};
+pub use cache::{
+    Cache, CacheBuilder, CacheStats, Fetched, LoadError, Reason, Recorder, WriteToken,
+};
 pub use caller::Caller;
 use chan::Leader;
 pub use chan::{Job, Receiver};
 pub use recording::{RecordError, Recorded, Recording};
-use shared::Shared;
+use shared::{Crowded, Shared};
 use std::fmt;
 use std::future::Future;
 use std::sync::Arc;
@@ -159,12 +167,14 @@ pub const fn is_proved() -> bool {
 pub enum Error {
     /// [`Group::open`] was called with this number of concurrent loads, which is out of range.
     Loads(u32),
-    /// There is no memory for a group.
+    /// There is no memory for a group or a cache.
     OutOfMemory,
     /// The load of another caller took longer than the timeout.
     TimedOut,
     /// The library needs a processor of the level x86-64-v2, which this one is below.
     OldProcessor,
+    /// A cache that refreshes its values needs a load of its own.
+    NoLoader,
 }
 
 impl fmt::Display for Error {
@@ -174,7 +184,7 @@ impl fmt::Display for Error {
                 write!(f, "{count} concurrent loads: a group is for 1 to 1,048,576")
             }
             Error::OutOfMemory => {
-                f.write_str("out of memory: free some, or open the group for fewer loads")
+                f.write_str("out of memory: free some, or expect fewer loads or entries")
             }
             Error::TimedOut => f.write_str(
                 "timed out: the key's load goes on; ask again, or forget the key to load it anew",
@@ -182,6 +192,9 @@ impl fmt::Display for Error {
             Error::OldProcessor => f.write_str(
                 "the processor is below x86-64-v2: build with --cfg singleflight_plain for it",
             ),
+            Error::NoLoader => {
+                f.write_str("refresh_after needs a loader: see CacheBuilder::loader")
+            }
         }
     }
 }
@@ -451,7 +464,8 @@ impl<T: Send + Sync> Group<T> {
     /// The future is cancellation safe. If it is dropped while it waits, it leaves the call. If it
     /// is dropped while it loads, it drops the load first, and then each joiner asks again. So a
     /// timeout of the executor around it is enough. Do not leak a future that loads
-    /// (`mem::forget`): its call would stay open until the key is forgotten.
+    /// (`mem::forget`): its call would stay open until the key is forgotten. Nor stop to poll it and
+    /// keep it, as a `select!` in a loop may: those who joined wait meanwhile. Spawn it, or drop it.
     ///
     /// ```
     /// # use std::{future::Future, pin::pin, task::{Context, Poll, Waker}};
@@ -480,6 +494,8 @@ impl<T: Send + Sync> Group<T> {
     /// A receiver that came with a job does not count as a joiner of its call. Do not leak a job
     /// (`mem::forget`): its call would stay open until the key is forgotten.
     ///
+    /// It waits for no load, but where 1,048,575 callers hold the call: then until one leaves.
+    ///
     /// ```
     /// let group = singleflight::Group::<u32>::new();
     /// let (mut receiver, job) = group.subscribe("key");
@@ -493,6 +509,17 @@ impl<T: Send + Sync> Group<T> {
         T: 'a,
     {
         Job::subscribe(Leader::Own(self.caller()), key.as_ref())
+    }
+
+    /// As `subscribe`, where it would not wait for others to leave the call.
+    pub(crate) fn try_subscribe<'a>(
+        &self,
+        key: impl AsRef<[u8]>,
+    ) -> Result<(Receiver<T>, Option<Job<'a, T>>), Crowded>
+    where
+        T: 'a,
+    {
+        Job::try_subscribe(Leader::Own(self.caller()), key.as_ref())
     }
 
     /// Forgets the key: a caller that asks from now on never receives a value whose load began
@@ -513,7 +540,8 @@ impl<T: Send + Sync> Group<T> {
 
     /// Forgets this call of the key, and leaves a newer one open. So if two callers reload one
     /// stale value, the later one does not end the call that the first one made. Returns what it
-    /// found.
+    /// found. The call must be one of this key: for a call of another key the outcome says nothing,
+    /// and the stamp of that call may end.
     ///
     /// ```
     /// use singleflight::{ForgetOutcome, Group};
@@ -596,7 +624,7 @@ impl<T: Send + Sync> Group<T> {
         &self,
         writer: impl std::io::Write + Send + 'static,
     ) -> Result<Recording, RecordError> {
-        self.shared.recordings.begin(writer)
+        self.shared.recordings.begin(writer, None)
     }
 
     /// Returns the numbers of the group's calls. It costs a look at the counts of each processor.

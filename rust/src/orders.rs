@@ -1,15 +1,17 @@
 //! The orders of `examples/orders` of the repository, whose README tells the format. Each caller is
-//! a thread, and each order is also played with callers that are tasks. A caller stops where the
-//! order says (`sync::at`), and a deadline ends when the order says so. A step that makes somebody
+//! a thread, and each order is also played with callers that are tasks, and recorded, by which its
+//! log has to be legal in time. A caller stops where the order says (`sync::at`), and a deadline ends when the order says so. A step that makes somebody
 //! do something waits until that caller has returned, runs its load, sleeps or has stopped; one that
 //! says what has come of it waits until it is so, for a minute at most.
 
-use crate::{Cache, Call, ForgetOutcome, Group, Loaded, Stamp};
+use crate::judge::{legal, Log};
+use crate::{Cache, Call, Fetched, ForgetOutcome, Group, LoadError, Loaded, Recording, Stamp};
 use std::cell::RefCell;
 use std::collections::BTreeMap;
 use std::future::Future;
 use std::panic::{catch_unwind, resume_unwind, AssertUnwindSafe};
 use std::pin::pin;
+use std::sync::atomic::{AtomicU64, Ordering::SeqCst};
 use std::sync::{Arc, Condvar, Mutex, MutexGuard};
 use std::task::{Context, Poll, Wake, Waker};
 use std::time::{Duration, Instant};
@@ -51,13 +53,25 @@ enum State {
 #[derive(Clone, Debug)]
 enum Command {
     Asks(String, How),
+    AsksMany(Vec<String>),
     Forgets(String),
+    ForgetsTag(String),
     ForgetsCall(String, Option<Call>),
     Puts(String, u64),
     Returns(u64),
+    ReturnsWithTag(u64, String),
+    /// Of a batch: a value for each key, or none.
+    ReturnsMany(Vec<Option<u64>>),
     Fails,
     Panics,
     Ends,
+}
+
+impl Command {
+    fn ends_a_load(&self) -> bool {
+        use Command::{Fails, Panics, Returns, ReturnsMany, ReturnsWithTag};
+        matches!(self, Returns(_) | ReturnsWithTag(..) | ReturnsMany(_) | Fails | Panics)
+    }
 }
 
 #[derive(Clone, Copy, Debug, PartialEq)]
@@ -76,6 +90,7 @@ enum Got {
     /// The value, how many had joined, whether it is shared, and whether it was led.
     Group(Value, u32, bool, bool),
     Cache(Value),
+    Many(Vec<Result<u64, LoadError<Failed>>>),
     Left,
     Panicked,
 }
@@ -96,6 +111,10 @@ struct Actor {
     // Wakes it where it sleeps.
     wake: Option<(WakeBy, usize, usize)>,
     got: Option<Got>,
+    // The keys of the batch that it loads, and what its call gave for each key. The call of one key
+    // may be given nothing too.
+    batch: Vec<String>,
+    many: Vec<(String, Result<u64, LoadError<Failed>>)>,
     last: Option<(Stamp, Option<Call>)>,
     forgot: &'static str,
 }
@@ -109,7 +128,9 @@ enum Callers {
 struct World {
     callers: Callers,
     group: Group<Value>,
-    cache: Option<Cache<u64, Failed>>,
+    cache: Option<Cache<String, u64, Failed>>,
+    // Seconds, by which a cache counts ages.
+    clock: Arc<AtomicU64>,
     actors: Mutex<Actors>,
     changed: Condvar,
 }
@@ -240,8 +261,16 @@ impl World {
             drop(actors);
             let forgot = match command {
                 Command::Asks(key, how) => {
-                    self.ask(name, &key, how);
+                    self.ask(name, &[key], Some(how));
                     continue;
+                }
+                Command::AsksMany(keys) => {
+                    self.ask(name, &keys, None);
+                    continue;
+                }
+                Command::ForgetsTag(tag) => {
+                    self.cache.as_ref().expect("a cache").invalidate_tag(tag);
+                    "closed"
                 }
                 Command::Forgets(key) => match &self.cache {
                     Some(cache) if key.is_empty() => {
@@ -249,7 +278,7 @@ impl World {
                         "closed"
                     }
                     Some(cache) => {
-                        cache.invalidate(key);
+                        cache.invalidate(&key);
                         "closed"
                     }
                     None if self.group.forget(key) => "closed a load",
@@ -265,7 +294,7 @@ impl World {
                 },
                 Command::Puts(key, value) => {
                     let cache = self.cache.as_ref().expect("a cache");
-                    if cache.insert(key, value) {
+                    if cache.insert(&key, value) {
                         "kept it"
                     } else {
                         "not kept it"
@@ -277,36 +306,91 @@ impl World {
         }
     }
 
-    fn load(&self, name: char, key: &str) -> Value {
+    // Runs the load of these keys, until a step ends it.
+    fn loads(&self, name: char, keys: &[String]) -> Command {
         let mut actors = self.lock();
-        *actors.loads.entry(key.into()).or_default() += 1;
+        for key in keys {
+            *actors.loads.entry(key.clone()).or_default() += 1;
+        }
         let actor = actors.of(name);
-        (actor.begun, actor.loaded) = (true, true);
+        (actor.begun, actor.loaded, actor.batch) = (true, true, keys.to_vec());
         drop(actors);
-        match self.serve(name, State::Loads) {
+        let command = self.serve(name, State::Loads);
+        if matches!(command, Command::Panics) {
+            resume_unwind(Box::new(Panicked));
+        }
+        command
+    }
+
+    fn load(&self, name: char, key: &str) -> Value {
+        match self.loads(name, &[key.into()]) {
             Command::Returns(value) => Ok(value),
-            Command::Panics => resume_unwind(Box::new(Panicked)),
             _ => Err(Failed),
         }
     }
 
-    fn ask(&self, name: char, key: &str, how: How) {
+    fn fetch(&self, name: char, key: &str) -> Result<Fetched<u64>, Failed> {
+        match self.loads(name, &[key.into()]) {
+            Command::Returns(value) => Ok(value.into()),
+            Command::ReturnsWithTag(value, tag) => Ok(Fetched::new(value).tags([tag])),
+            _ => Err(Failed),
+        }
+    }
+
+    fn fetch_many(&self, name: char, keys: &[&String]) -> Result<Vec<(String, u64)>, Failed> {
+        let keys: Vec<String> = keys.iter().map(|key| key.to_string()).collect();
+        let values = match self.loads(name, &keys) {
+            Command::Returns(value) => vec![Some(value)],
+            Command::ReturnsMany(values) => values,
+            _ => return Err(Failed),
+        };
+        assert_eq!(values.len(), keys.len(), "a value for each key that {name} loads");
+        Ok(keys.into_iter().zip(values).filter_map(|(key, value)| Some((key, value?))).collect())
+    }
+
+    // Runs the load that is to replace a value, behind the caller that found it due. It has that
+    // caller's name in capitals.
+    fn refresh(self: Arc<Self>, of: char, run: Box<dyn FnOnce() + Send>) {
+        let name = of.to_ascii_uppercase();
+        self.lock().all.insert(name, Actor::default());
+        std::thread::spawn(move || {
+            SELF.set(Some((self.clone(), name)));
+            let ended = catch_unwind(AssertUnwindSafe(run));
+            SELF.set(None);
+            if ended.is_err_and(|panic| !panic.is::<Panicked>()) {
+                self.lock().of(name).forgot = "panicked";
+                return;
+            }
+            self.lock().of(name).state = State::Idle;
+            self.changed.notify_all();
+        });
+    }
+
+    fn ask(&self, name: char, keys: &[String], how: Option<How>) {
         let mut actors = self.lock();
         let actor = actors.of(name);
         // Of the load that this may be in.
         let outer = (actor.loaded, actor.joined);
         (actor.begun, actor.loaded, actor.joined, actor.is_late) = (false, false, false, false);
-        actor.may_leave = how == How::WithADeadline;
+        actor.may_leave = how == Some(How::WithADeadline);
         drop(actors);
-        let (got, last) = match catch_unwind(AssertUnwindSafe(|| self.get(name, key, how))) {
+        let get = || match how {
+            Some(how) => self.get(name, &keys[0], how),
+            None => (Got::Many(self.get_many(name, keys)), None),
+        };
+        let (got, last) = match catch_unwind(AssertUnwindSafe(get)) {
             Ok(got) => got,
             Err(panic) if panic.is::<Panicked>() => (Got::Panicked, None),
             Err(panic) => resume_unwind(panic),
         };
         let mut actors = self.lock();
         let actor = actors.of(name);
-        assert!(actor.got.is_none(), "two results of {name}");
-        (actor.got, actor.last, actor.may_leave) = (Some(got), last, false);
+        assert!(actor.got.is_none() && actor.many.is_empty(), "two results of {name}");
+        (actor.last, actor.may_leave) = (last, false);
+        match got {
+            Got::Many(many) => actor.many = keys.iter().cloned().zip(many).collect(),
+            got => actor.got = Some(got),
+        }
         // What the cache's call was is looked at by `how`, which a nested call does not change.
         actor.forgot = match (actor.loaded, actor.joined) {
             (true, _) => "loaded",
@@ -319,13 +403,18 @@ impl World {
     fn get(&self, name: char, key: &str, how: How) -> (Got, Option<(Stamp, Option<Call>)>) {
         let load = || self.load(name, key);
         if let Some(cache) = &self.cache {
+            let load = || self.fetch(name, key);
             let got = match self.callers {
-                Callers::Threads => cache.try_get_or_load(key, load),
+                Callers::Threads => cache.get_or_fetch(key, load),
                 Callers::Tasks => {
-                    self.block_on(name, cache.try_get_or_load_async(key, async { load() })).unwrap()
+                    self.block_on(name, cache.get_or_fetch_async(key, async { load() })).unwrap()
                 }
             };
-            return (Got::Cache(got.map(|value| *value).map_err(|_| Failed)), None);
+            let got = match got {
+                Err(LoadError::NotFound) => Got::Many(vec![Err(LoadError::NotFound)]),
+                got => Got::Cache(got.map(|value| *value).map_err(|_| Failed)),
+            };
+            return (got, None);
         }
         let got = match (self.callers, how) {
             (_, How::ByAChannel) => {
@@ -345,6 +434,12 @@ impl World {
         let Loaded { value, joiners, led, .. } = &got;
         let last = Some((got.stamp(), got.call()));
         (Got::Group((**value).clone(), *joiners, got.shared(), *led), last)
+    }
+
+    fn get_many(&self, name: char, keys: &[String]) -> Vec<Result<u64, LoadError<Failed>>> {
+        let cache = self.cache.as_ref().expect("a cache");
+        let got = cache.get_many(keys, |keys| self.fetch_many(name, keys));
+        got.into_iter().map(|got| got.map(|value| *value)).collect()
     }
 
     // Polls the future to its end. It is dropped where the caller's deadline ends while it waits.
@@ -394,6 +489,7 @@ struct Play {
     world: Arc<World>,
     threads: Vec<std::thread::JoinHandle<()>>,
     fillers: u32,
+    recorded: Option<(Recording, Log)>,
 }
 
 impl Drop for Play {
@@ -421,15 +517,19 @@ struct Found<'a> {
     key: &'a str,
     number: u64,
     point: &'a str,
+    tag: &'a str,
 }
+
+/// What a step tells the caller that it names, by the words of the step.
+type Tells = fn(&Found) -> Command;
 
 fn actor_of(word: &str) -> Option<char> {
     let mut letters = word.chars();
     letters.next().filter(|it| ('a'..='h').contains(it) && letters.next().is_none())
 }
 
-/// Compares the words of a step with a form, in which A is a caller, K a key, N a number and W a
-/// point.
+/// Compares the words of a step with a form, in which A is a caller, K a key, N a number, W a point
+/// and T a tag.
 fn matches<'a>(words: &[&'a str], form: &str) -> Option<Found<'a>> {
     let mut found = Found::default();
     let parts: Vec<&str> = form.split(' ').collect();
@@ -443,6 +543,7 @@ fn matches<'a>(words: &[&'a str], form: &str) -> Option<Found<'a>> {
             "K" if word.starts_with(|it| ('k'..='z').contains(&it)) => found.key = word,
             "N" => found.number = word.parse().ok()?,
             "W" => found.point = word,
+            "T" if word.starts_with(|it| ('t'..='z').contains(&it)) => found.tag = word,
             part if part == *word => {}
             _ => return None,
         }
@@ -450,13 +551,99 @@ fn matches<'a>(words: &[&'a str], form: &str) -> Option<Found<'a>> {
     Some(found)
 }
 
+/// The options of a cache, in seconds.
+#[derive(Clone, Copy, Default)]
+struct Options {
+    ttl: Option<u64>,
+    refresh: Option<u64>,
+    stale: Option<u64>,
+    errors: Option<u64>,
+}
+
+impl Options {
+    /// Whether the line is one of these.
+    fn take(&mut self, words: &[&str]) -> bool {
+        let options = [
+            ("values live for N", &mut self.ttl),
+            ("values are refreshed after N", &mut self.refresh),
+            ("values are stale for N", &mut self.stale),
+            ("errors are kept for N", &mut self.errors),
+        ];
+        options.into_iter().any(|(form, option)| {
+            let found = matches(words, form).map(|it| it.number);
+            *option = found.or(*option);
+            found.is_some()
+        })
+    }
+
+    fn cache(self, clock: &Arc<AtomicU64>) -> Cache<String, u64, Failed> {
+        let (clock, Options { errors, .. }) = (clock.clone(), self);
+        let caller = || own().expect("a caller of an order");
+        let mut cache = Cache::builder(100)
+            // So many hash slots that no two keys of an order share one: a Forget of one key would
+            // end the value of the other.
+            .entries(1 << 16)
+            .loads(1)
+            .clock(move || Duration::from_secs(clock.load(SeqCst)))
+            .loader(move |key: &String| {
+                let (world, name) = caller();
+                world.fetch(name, key)
+            })
+            .executor(move |run| {
+                let (world, name) = caller();
+                world.refresh(name, run);
+            })
+            .error_ttl(move |_| errors.map(Duration::from_secs));
+        if let Some(ttl) = self.ttl {
+            cache = cache.time_to_live(Duration::from_secs(ttl));
+        }
+        if let Some(refresh) = self.refresh {
+            cache = cache.refresh_after(Duration::from_secs(refresh));
+        }
+        if let Some(stale) = self.stale {
+            cache = cache.stale_if_error(Duration::from_secs(stale));
+        }
+        cache.build().unwrap()
+    }
+}
+
 impl Play {
-    fn new(is_cache: bool, callers: Callers) -> Self {
-        let cache = is_cache.then(|| Cache::builder(100).loads(1).build().unwrap());
+    fn new(options: Option<Options>, callers: Callers) -> Self {
+        let clock = Arc::default();
+        let cache = options.map(|options| options.cache(&clock));
         let group = Group::open(1).unwrap();
         let (actors, changed) = (Mutex::default(), Condvar::new());
-        let world = Arc::new(World { callers, group, cache, actors, changed });
-        Play { world, threads: Vec::new(), fillers: 0 }
+        let world = Arc::new(World { callers, group, cache, clock, actors, changed });
+        Play { world, threads: Vec::new(), fillers: 0, recorded: None }
+    }
+
+    fn record(&mut self) {
+        let log = Log::default();
+        let recording = match &self.world.cache {
+            Some(cache) => cache.record(log.clone()),
+            None => self.world.group.record(log.clone()),
+        };
+        self.recorded = Some((recording.unwrap(), log));
+    }
+
+    // What was recorded is legal in time, and has each load that ended, but for those that the cache
+    // leaves out: they failed or were not kept, and an older value stayed.
+    fn judge(&mut self) -> Result<(), Wrong> {
+        let Some((recording, log)) = self.recorded.take() else { return Ok(()) };
+        let recorded = recording.stop().unwrap();
+        let text = log.text();
+        let events = legal(&text);
+        assert_eq!((events.len() as u64, recorded.lost), (recorded.events, 0), "{text}");
+        let leads = events.iter().filter(|it| it.kind == "lead").count() as u64;
+        let loads = self.world.lock().loads.values().sum::<u64>() + u64::from(self.fillers);
+        let left_out = match &self.world.cache {
+            Some(cache) => cache.stats().refreshes + cache.stats().failures,
+            None => 0,
+        };
+        if leads + left_out >= loads {
+            return Ok(());
+        }
+        Err(format!("{leads} of {loads} loads are recorded: {text}"))
     }
 
     // The caller, once it rests.
@@ -481,8 +668,12 @@ impl Play {
     }
 
     fn tell(&self, name: char, command: Command) -> Result<(), Wrong> {
-        let is_end = matches!(command, Command::Returns(_) | Command::Fails | Command::Panics);
+        let is_end = command.ends_a_load();
         let mut actors = self.world.lock();
+        // A refresh that the caller has begun ends first.
+        let behind = name.to_ascii_uppercase();
+        let refreshes = actors.all.get(&behind).is_some_and(|it| it.state == State::Loads);
+        let name = if is_end && refreshes { behind } else { name };
         let actor = actors.of(name);
         if actor.state != State::Loads && (is_end || actor.state != State::Idle) {
             return Err(self.what(actors, name));
@@ -512,49 +703,49 @@ impl Play {
 
     // A step in which somebody does something; or none.
     fn acts(&mut self, words: &[&str]) -> Option<Result<(), Wrong>> {
-        let form = |form: &str| matches(words, form);
-        let asks = [
-            ("A asks K", How::Plainly),
-            ("A asks K with a deadline", How::WithADeadline),
-            ("A asks K by a channel", How::ByAChannel),
-        ];
-        for (text, how) in asks {
-            if let Some(it) = form(text) {
-                self.actor(it.actors[0]);
-                return Some(self.tell(it.actors[0], Command::Asks(it.key.into(), how)));
-            }
+        if let Some((name, command)) = self.command_of(words) {
+            self.actor(name);
+            return Some(self.tell(name, command));
         }
-        let ends = [("A fails", Command::Fails), ("A panics", Command::Panics)];
-        for (text, command) in ends {
-            if let Some(it) = form(text) {
-                self.actor(it.actors[0]);
-                return Some(self.tell(it.actors[0], command));
-            }
-        }
-        if let Some(it) = form("A returns N") {
-            self.actor(it.actors[0]);
-            return Some(self.tell(it.actors[0], Command::Returns(it.number)));
-        }
-        if let Some(it) = form("A forgets K") {
-            self.actor(it.actors[0]);
-            return Some(self.tell(it.actors[0], Command::Forgets(it.key.into())));
-        }
-        if self.world.cache.is_some() {
-            if let Some(it) = form("A forgets all") {
-                self.actor(it.actors[0]);
-                return Some(self.tell(it.actors[0], Command::Forgets(String::new())));
-            }
-        }
-        if let Some(it) = form("A forgets A's call") {
+        if let Some(it) = matches(words, "A forgets A's call") {
             it.actors.iter().for_each(|name| self.actor(*name));
             let call = self.world.lock().of(it.actors[1]).last.and_then(|last| last.1);
             // Each order has one key of which it forgets calls.
             return Some(self.tell(it.actors[0], Command::ForgetsCall("k".into(), call)));
         }
-        if let Some(it) = form("A puts N at K") {
-            self.actor(it.actors[0]);
-            return Some(self.tell(it.actors[0], Command::Puts(it.key.into(), it.number)));
+        self.acts_on_many(words)
+            .or_else(|| self.stops_or_goes_on(words))
+            .or_else(|| self.acts_on_all(words))
+    }
+
+    // The caller that a step names alone, and what the step tells it to do; or none.
+    fn command_of(&self, words: &[&str]) -> Option<(char, Command)> {
+        let forms: [(&str, Tells); 10] = [
+            ("A asks K", |it| Command::Asks(it.key.into(), How::Plainly)),
+            ("A asks K with a deadline", |it| Command::Asks(it.key.into(), How::WithADeadline)),
+            ("A asks K by a channel", |it| Command::Asks(it.key.into(), How::ByAChannel)),
+            ("A fails", |_| Command::Fails),
+            ("A panics", |_| Command::Panics),
+            ("A returns N", |it| Command::Returns(it.number)),
+            ("A returns N with tag T", |it| Command::ReturnsWithTag(it.number, it.tag.into())),
+            ("A forgets tag T", |it| Command::ForgetsTag(it.tag.into())),
+            ("A forgets K", |it| Command::Forgets(it.key.into())),
+            ("A puts N at K", |it| Command::Puts(it.key.into(), it.number)),
+        ];
+        if self.world.cache.is_some() {
+            if let Some(it) = matches(words, "A forgets all") {
+                return Some((it.actors[0], Command::Forgets(String::new())));
+            }
         }
+        forms.iter().find_map(|(form, command)| {
+            let it = matches(words, form)?;
+            Some((it.actors[0], command(&it)))
+        })
+    }
+
+    // A step by which a caller will stop, goes on, or leaves at its deadline; or none.
+    fn stops_or_goes_on(&mut self, words: &[&str]) -> Option<Result<(), Wrong>> {
+        let form = |form: &str| matches(words, form);
         if let Some(it) = form("A will stop before W").or_else(|| form("A will stop once W")) {
             let before = if words[3] == "before" { "before " } else { "" };
             let point = format!("{before}{}", it.point);
@@ -569,20 +760,26 @@ impl Play {
             self.actor(it.actors[0]);
             return Some(self.leaves(it.actors[0]));
         }
-        if let Some(it) = form("A goes on") {
-            let name = it.actors[0];
-            self.actor(name);
-            let mut actors = self.world.lock();
-            if actors.of(name).state != State::HasStopped {
-                return Some(Err(self.what(actors, name)));
-            }
-            actors.of(name).state = State::Runs;
-            self.world.changed.notify_all();
-            drop(actors);
-            self.rests(name);
+        let name = form("A goes on")?.actors[0];
+        self.actor(name);
+        let mut actors = self.world.lock();
+        if actors.of(name).state != State::HasStopped {
+            return Some(Err(self.what(actors, name)));
+        }
+        actors.of(name).state = State::Runs;
+        self.world.changed.notify_all();
+        drop(actors);
+        self.rests(name);
+        Some(Ok(()))
+    }
+
+    // A step that no caller makes; or none.
+    fn acts_on_all(&mut self, words: &[&str]) -> Option<Result<(), Wrong>> {
+        if let Some(it) = matches(words, "the clock goes on by N") {
+            self.world.clock.fetch_add(it.number, SeqCst);
             return Some(Ok(()));
         }
-        form("the group grows")?;
+        matches(words, "the group grows")?;
         let before = self.tables();
         self.grow(before, 0);
         Some(if cfg!(sflight_library) && self.tables() == before {
@@ -590,6 +787,26 @@ impl Play {
         } else {
             Ok(())
         })
+    }
+
+    // A step of a batch of two keys and more; or none.
+    fn acts_on_many(&mut self, words: &[&str]) -> Option<Result<(), Wrong>> {
+        let [name, verb, rest @ ..] = words else { return None };
+        let name = actor_of(name).filter(|_| rest.len() > 1)?;
+        let is_key = |word: &&str| word.starts_with(|it| ('k'..='z').contains(&it));
+        let value = |word: &&str| match *word {
+            "nothing" => Some(None),
+            number => number.parse().ok().map(Some),
+        };
+        let command = match *verb {
+            "asks" if rest.iter().all(|word| word.len() == 1 && is_key(word)) => {
+                Command::AsksMany(rest.iter().map(|key| key.to_string()).collect())
+            }
+            "returns" => Command::ReturnsMany(rest.iter().map(value).collect::<Option<_>>()?),
+            _ => return None,
+        };
+        self.actor(name);
+        Some(self.tell(name, command))
     }
 
     fn leaves(&self, name: char) -> Result<(), Wrong> {
@@ -630,17 +847,16 @@ impl Play {
     }
 
     // A step that says what has come of those before; or none.
-    fn says(&mut self, words: &[&str]) -> Option<Result<(), Wrong>> {
+    fn says(&self, words: &[&str]) -> Option<Result<(), Wrong>> {
+        self.says_of_load(words)
+            .or_else(|| self.says_of_caller(words))
+            .or_else(|| self.says_of_numbers(words))
+            .or_else(|| self.says_result(words))
+    }
+
+    // What a step says of a load: the caller leads or refreshes, or waits for another; or none.
+    fn says_of_load(&self, words: &[&str]) -> Option<Result<(), Wrong>> {
         let form = |form: &str| matches(words, form);
-        let is_current = |name, is| {
-            let last = self.world.lock().of(name).last;
-            let Some((stamp, _)) = last else { return Err("it has no result".into()) };
-            if self.world.group.is_current(stamp) == is {
-                Ok(())
-            } else {
-                Err("it is not so".into())
-            }
-        };
         if let Some(it) = form("A leads") {
             return Some(self.holds(it.actors[0], |actor| {
                 let is = actor.begun && actor.got.is_none() && actor.state == State::Loads;
@@ -648,11 +864,32 @@ impl Play {
                 is
             }));
         }
-        if let Some(it) = form("A joins").or_else(|| form("A waits")) {
-            return Some(self.holds(it.actors[0], |actor| {
-                actor.state == State::Sleeps && actor.got.is_none() && !actor.begun
+        if let ["leads", keys @ ..] = &words[1..] {
+            let keys: Vec<String> = keys.iter().map(|key| key.to_string()).collect();
+            return Some(self.holds(actor_of(words[0])?, |actor| {
+                let is = actor.begun && actor.batch == keys && actor.state == State::Loads;
+                actor.begun &= !is;
+                is
             }));
         }
+        if let Some(it) = form("A refreshes") {
+            let behind = it.actors[0].to_ascii_uppercase();
+            self.world.lock().all.entry(behind).or_default();
+            return Some(self.holds(behind, |actor| {
+                let is = actor.begun && actor.state == State::Loads;
+                actor.begun &= !is;
+                is
+            }));
+        }
+        let it = form("A joins").or_else(|| form("A waits"))?;
+        Some(self.holds(it.actors[0], |actor| {
+            actor.state == State::Sleeps && actor.got.is_none() && !actor.begun
+        }))
+    }
+
+    // What a step says of a caller that has stopped, left or forgotten, or of its result; or none.
+    fn says_of_caller(&self, words: &[&str]) -> Option<Result<(), Wrong>> {
+        let form = |form: &str| matches(words, form);
         if let Some(it) = form("A has stopped") {
             return Some(self.holds(it.actors[0], |actor| actor.state == State::HasStopped));
         }
@@ -678,12 +915,23 @@ impl Play {
                 }));
             }
         }
-        if let Some(it) = form("A's result is current") {
-            return Some(is_current(it.actors[0], true));
-        }
-        if let Some(it) = form("A's result is not current") {
-            return Some(is_current(it.actors[0], false));
-        }
+        let (it, expected) = match form("A's result is current") {
+            Some(it) => (it, true),
+            None => (form("A's result is not current")?, false),
+        };
+        let last = self.world.lock().of(it.actors[0]).last;
+        let Some((stamp, _)) = last else { return Some(Err("it has no result".into())) };
+        Some(if self.world.group.is_current(stamp) == expected {
+            Ok(())
+        } else {
+            Err("it is not so".into())
+        })
+    }
+
+    // What a step says of how often a key was loaded, of the loads that run, or of the value that a
+    // cache holds; or none.
+    fn says_of_numbers(&self, words: &[&str]) -> Option<Result<(), Wrong>> {
+        let form = |form: &str| matches(words, form);
         if words.len() > 3 && words[1..3] == ["was", "loaded"] {
             let (it, times) = if let Some(it) = form("K was loaded once") {
                 (it, 1)
@@ -705,19 +953,45 @@ impl Play {
             let run = self.world.group.stats().in_use;
             return Some(if run == it.number { Ok(()) } else { Err(format!("{run} run")) });
         }
-        if let Some(it) = form("K holds nothing").or_else(|| form("K holds N")) {
-            let expected = (words[2] != "nothing").then_some(it.number);
-            let holds = self.world.cache.as_ref()?.get(it.key).map(|value| *value);
-            return Some(if holds == expected {
-                Ok(())
-            } else {
-                Err(format!("it holds {holds:?}"))
-            });
+        let it = form("K holds nothing").or_else(|| form("K holds N"))?;
+        let expected = (words[2] != "nothing").then_some(it.number);
+        // A get of an old value would begin its refresh.
+        let mut all = self.world.cache.as_ref()?.iter();
+        let holds = all.find(|(key, _)| key == it.key).map(|(_, value)| *value);
+        Some(if holds == expected { Ok(()) } else { Err(format!("it holds {holds:?}")) })
+    }
+
+    // What a step says of one key of a batch, or of one that is not there.
+    fn says_of_key(&self, words: &[&str]) -> Option<Result<(), Wrong>> {
+        let form = |form: &str| matches(words, form);
+        // Of a call of one key, which the step does not name.
+        if let Some(it) = form("A has nothing") {
+            return Some(self.holds(it.actors[0], |actor| {
+                let is = actor.many.len() == 1 && actor.many[0].1 == Err(LoadError::NotFound);
+                actor.many.retain(|_| !is);
+                is
+            }));
         }
-        self.says_result(words)
+        let (it, expected) = if let Some(it) = form("A has nothing at K") {
+            (it, Err(LoadError::NotFound))
+        } else if let Some(it) = form("A has an error at K") {
+            (it, Err(LoadError::Failed(Arc::new(Failed))))
+        } else {
+            let it = form("A has N at K")?;
+            let number = it.number;
+            (it, Ok(number))
+        };
+        Some(self.holds(it.actors[0], |actor| {
+            let is = |(key, got): &(String, _)| key == it.key && *got == expected;
+            let at = actor.many.iter().position(is);
+            at.map(|at| actor.many.remove(at)).is_some()
+        }))
     }
 
     fn says_result(&self, words: &[&str]) -> Option<Result<(), Wrong>> {
+        if let Some(said) = self.says_of_key(words) {
+            return Some(said);
+        }
         let is_named = words.len() > 2 && ["a", "an"].contains(&words[2]);
         let (what, how) = words.split_at_checked(if is_named { 4 } else { 3 })?;
         let is_error = matches(what, "A has an error").is_some();
@@ -741,7 +1015,7 @@ impl Play {
         }
         Some(self.holds(it.actors[0], |actor| {
             let is = match &actor.got {
-                None | Some(Got::Left) => false,
+                None | Some(Got::Left | Got::Many(_)) => false,
                 Some(Got::Panicked) => is_panic,
                 Some(Got::Cache(got)) => {
                     !is_panic && *got == value && (how.is_empty() || how[0] == actor.forgot)
@@ -766,7 +1040,8 @@ impl Play {
         names.into_iter().for_each(|name| self.rests(name));
         let actors = self.world.lock();
         for (name, actor) in &actors.all {
-            if actor.state != State::Idle || actor.got.is_some() || actor.stop.is_some() {
+            let has_results = actor.got.is_some() || !actor.many.is_empty();
+            if actor.state != State::Idle || has_results || actor.stop.is_some() {
                 let (state, got, stop) = (actor.state, &actor.got, &actor.stop);
                 return Err(format!("{name}: {state:?}, and has {got:?}, and is to stop {stop:?}"));
             }
@@ -791,8 +1066,9 @@ fn is_ours(languages: &[&str]) -> Result<bool, Wrong> {
 }
 
 /// Plays an order of this name. An error names the line.
-fn play(name: &str, text: &str, callers: Callers) -> Result<(), Wrong> {
+fn play(name: &str, text: &str, callers: Callers, is_recorded: bool) -> Result<(), Wrong> {
     let mut play: Option<Play> = None;
+    let mut options = None::<Options>;
     for (number, line) in text.lines().enumerate() {
         let line = line.split('#').next().unwrap_or_default().trim();
         let wrong = |why: Wrong| format!("{name}:{}: {line}: {why}", number + 1);
@@ -807,9 +1083,14 @@ fn play(name: &str, text: &str, callers: Callers) -> Result<(), Wrong> {
             if words != ["group"] && words != ["cache"] {
                 return Err(wrong("an order begins with group or cache".into()));
             }
-            play = Some(Play::new(words == ["cache"], callers));
+            options = (words == ["cache"]).then(Options::default);
+            play = Some(Play::new(options, callers));
             continue;
         };
+        if options.as_mut().is_some_and(|options| options.take(&words)) {
+            *play = Play::new(options, callers);
+            continue;
+        }
         if words[0] == "only" {
             if !is_ours(&words[1..]).map_err(wrong)? {
                 return Ok(());
@@ -819,13 +1100,16 @@ fn play(name: &str, text: &str, callers: Callers) -> Result<(), Wrong> {
         if !is_ours(&languages).map_err(wrong)? {
             continue;
         }
+        if is_recorded && play.recorded.is_none() {
+            play.record();
+        }
         let come = play.acts(&words).or_else(|| play.says(&words));
         come.unwrap_or_else(|| Err("this is no step".into())).map_err(wrong)?;
     }
-    let Some(play) = play else {
+    let Some(mut play) = play else {
         return Err(format!("{name}: an order begins with group or cache"));
     };
-    play.end().map_err(|why| format!("{name}: at its end: {why}"))
+    play.end().and_then(|()| play.judge()).map_err(|why| format!("{name}: at its end: {why}"))
 }
 
 // The orders, by their names. None in a package that stands alone.
@@ -847,7 +1131,17 @@ fn orders() -> Vec<(String, String)> {
 #[test]
 fn orders_of_threads() {
     for (name, text) in orders() {
-        if let Err(why) = play(&name, &text, Callers::Threads) {
+        if let Err(why) = play(&name, &text, Callers::Threads, false) {
+            panic!("{why}");
+        }
+    }
+}
+
+#[test]
+fn orders_that_are_recorded() {
+    for (name, text) in orders() {
+        println!("{name}");
+        if let Err(why) = play(&name, &text, Callers::Threads, true) {
             panic!("{why}");
         }
     }
@@ -860,7 +1154,7 @@ fn orders_of_tasks() {
         if text.contains("before leave") {
             continue;
         }
-        if let Err(why) = play(&name, &text, Callers::Tasks) {
+        if let Err(why) = play(&name, &text, Callers::Tasks, false) {
             panic!("{why}");
         }
     }
@@ -887,7 +1181,7 @@ fn what_is_no_order_is_an_error_that_names_the_line() {
         ("cache\nk holds 1", "it:2: k holds 1: it holds None"),
         ("group\nGo: a flies\nonly C\na flies", ""),
     ] {
-        let error = play("it", text, Callers::Threads).err().unwrap_or_default();
+        let error = play("it", text, Callers::Threads, false).err().unwrap_or_default();
         assert!(error.starts_with(why) && error.is_empty() == why.is_empty(), "{text:?}: {error}");
     }
 }

@@ -10,20 +10,31 @@ use std::hash::BuildHasher;
 use std::num::NonZero;
 use std::ops::{Deref, DerefMut};
 use std::sync::atomic::{
-    AtomicBool, AtomicUsize,
-    Ordering::{Acquire, Relaxed, Release},
+    AtomicUsize,
+    Ordering::{Acquire, Relaxed, Release, SeqCst},
 };
 use std::sync::OnceLock;
+
+/// Within these bounds a group has a place for each processor: also with few processors several
+/// threads are in it at one time, and each place costs memory.
+const FEWEST_PLACES: usize = 4;
+const MOST_PLACES: usize = 64;
 
 /// How many places a group has, a power of two: enough for the threads that run at one time.
 fn place_count() -> usize {
     static PROCESSORS: OnceLock<usize> = OnceLock::new();
     let count = || std::thread::available_parallelism().map_or(1, NonZero::get);
-    PROCESSORS.get_or_init(count).next_power_of_two().clamp(4, 64)
+    PROCESSORS.get_or_init(count).next_power_of_two().clamp(FEWEST_PLACES, MOST_PLACES)
 }
 
 /// So many idle calls are kept in a place.
 const IDLE: usize = 64;
+/// A place that nobody has, and one that somebody has who protects nothing. Any other number is the
+/// address of what its owner reads.
+const FREE: usize = 0;
+const TAKEN: usize = 1;
+/// So many addresses are held for long at a place, beside the one of its owner.
+const HOLDS: usize = 2;
 
 /// A handle, and what its calls need beside it.
 pub(crate) struct Seat {
@@ -34,6 +45,9 @@ pub(crate) struct Seat {
     pub(crate) joins: u64,
     pub(crate) forgets: u64,
     settles: u64,
+    /// Gets of a cache, by this handle.
+    pub(crate) hits: u64,
+    pub(crate) misses: u64,
 }
 
 impl Seat {
@@ -67,29 +81,49 @@ impl Seat {
 /// anything of the user's. To take it costs one exchange, and to give it back one store. Nobody
 /// sleeps for it: whoever finds it taken takes another one, or tries again. No two lie in one line
 /// of memory.
+///
+/// Whoever has a place may read what a cache is about to free: see [`Places::pin`].
 #[repr(align(128))]
 struct Place {
-    is_taken: AtomicBool,
+    state: AtomicUsize,
+    holds: [AtomicUsize; HOLDS],
     seat: UnsafeCell<Seat>,
 }
 
 // SAFETY: one thread at a time has a guard, by which alone the seat is reached, and a seat is Send.
 unsafe impl Sync for Place {}
 
-struct Taken<'a>(&'a Place);
+pub(crate) struct Taken<'a>(&'a Place);
+
+/// Protects what is at an address, for as long as somebody reads it.
+pub(crate) struct Hold<'a>(&'a AtomicUsize);
+
+impl Drop for Hold<'_> {
+    fn drop(&mut self) {
+        self.0.store(FREE, Release);
+    }
+}
 
 impl Place {
     fn new(handle: Handle) -> Self {
-        let seat = Seat { handle, idle: Vec::new(), loads: 0, joins: 0, forgets: 0, settles: 0 };
-        Place { is_taken: AtomicBool::new(false), seat: UnsafeCell::new(seat) }
+        let (idle, [loads, joins, forgets, settles, hits, misses]) = (Vec::new(), [0; 6]);
+        let seat = Seat { handle, idle, loads, joins, forgets, settles, hits, misses };
+        Place { state: AtomicUsize::new(FREE), holds: Default::default(), seat: seat.into() }
+    }
+
+    /// Takes it where it is free, and protects an address.
+    #[inline]
+    fn try_take(&self, address: usize) -> Option<Taken<'_>> {
+        point();
+        let is_free = self.state.load(Relaxed) == FREE
+            && self.state.compare_exchange(FREE, address, SeqCst, Relaxed).is_ok();
+        is_free.then(|| Taken(self))
     }
 
     /// Takes it where it is free.
     #[inline]
     fn try_lock(&self) -> Option<Taken<'_>> {
-        point();
-        let is_free = !self.is_taken.load(Relaxed) && !self.is_taken.swap(true, Acquire);
-        is_free.then(|| Taken(self))
+        self.try_take(TAKEN)
     }
 
     fn lock(&self) -> Taken<'_> {
@@ -100,6 +134,25 @@ impl Place {
             }
             pause(&mut tries);
         }
+    }
+}
+
+impl<'a> Taken<'a> {
+    /// Protects another address in place of the one before.
+    #[inline]
+    pub(crate) fn protect(&self, address: usize) {
+        self.0.state.store(address, SeqCst);
+    }
+
+    /// Protects what the place protects for longer than the place is had. None where so many do so
+    /// already.
+    #[inline]
+    pub(crate) fn hold(&self) -> Option<Hold<'a>> {
+        // The last holder has read: a thread that looks next, and frees what that was, knows so too.
+        let hold = self.0.holds.iter().find(|hold| hold.load(Acquire) == FREE)?;
+        // It is told before the place is free: a thread that looks at the place first finds one of them.
+        hold.store(self.0.state.load(Relaxed), Release);
+        Some(Hold(hold))
     }
 }
 
@@ -124,7 +177,7 @@ impl DerefMut for Taken<'_> {
 impl Drop for Taken<'_> {
     #[inline]
     fn drop(&mut self) {
-        self.0.is_taken.store(false, Release);
+        self.0.state.store(FREE, Release);
     }
 }
 
@@ -132,10 +185,27 @@ impl Drop for Taken<'_> {
 /// is always open, and the others are split off from it.
 pub(crate) struct Places(Box<[Place]>);
 
+#[cfg(test)]
+thread_local! {
+    /// Whether the groups that this thread opens have the same seeds in each run, since its test says
+    /// what becomes of each key. A Forget of one key ends what its hash slot has of others, and two
+    /// keys of the test would share a slot in one run and not in another.
+    pub(crate) static HAS_FIXED_SEEDS: std::cell::Cell<bool> = const { std::cell::Cell::new(false) };
+}
+
+/// Seeds that nobody knows.
+fn seeds() -> [u64; 2] {
+    #[cfg(test)]
+    if HAS_FIXED_SEEDS.get() {
+        return [0x243f_6a88_85a3_08d3, 0x1319_8a2e_0370_7344];
+    }
+    let random = RandomState::new();
+    [0, 1].map(|number: u64| random.hash_one(number))
+}
+
 impl Places {
     pub(crate) fn open(cells: u32) -> Result<Self, Error> {
-        let random = RandomState::new();
-        let first = Handle::open(cells, [0, 1].map(|number: u64| random.hash_one(number)))?;
+        let first = Handle::open(cells, seeds())?;
         let more = (1..place_count()).map(|_| Handle::NONE);
         Ok(Places(std::iter::once(first).chain(more).map(Place::new).collect()))
     }
@@ -152,6 +222,54 @@ impl Places {
             seat = self.opened(seat);
         }
         run(&mut seat)
+    }
+
+    /// Takes a place, and protects what is at the address. `None` where all are taken, or there is no
+    /// memory for a handle.
+    ///
+    /// Whoever reads finds an address, takes a place with it, and looks once more whether the address
+    /// is where it was found. Whoever frees takes the address away, and then asks
+    /// [`Places::protects`]. All four steps are in one order for all threads (`SeqCst`), so either the
+    /// reader finds that the address is gone, or the other one finds that it is protected.
+    #[inline]
+    pub(crate) fn pin(&self, address: usize) -> Option<Taken<'_>> {
+        let own = thread_number() & (self.0.len() - 1);
+        let taken = match self.0[own].try_take(address) {
+            Some(taken) => taken,
+            None => self.pin_elsewhere(own, address)?,
+        };
+        match taken.handle.is_open() {
+            true => Some(taken),
+            false => self.pin_opened(taken, own, address),
+        }
+    }
+
+    /// Pins the address as `pin` does, at a place that no thread has used before.
+    #[cold]
+    #[inline(never)]
+    fn pin_opened<'a>(&'a self, taken: Taken<'a>, own: usize, address: usize) -> Option<Taken<'a>> {
+        drop(taken);
+        self.with(|_| ());
+        let taken = self.pin_elsewhere(own, address)?;
+        taken.handle.is_open().then_some(taken)
+    }
+
+    #[cold]
+    #[inline(never)]
+    fn pin_elsewhere(&self, own: usize, address: usize) -> Option<Taken<'_>> {
+        let (before, after) = self.0.split_at(own);
+        after.iter().chain(before).find_map(|place| place.try_take(address))
+    }
+
+    /// Whether somebody may read what is at the address, which nobody can find any more.
+    pub(crate) fn protects(&self, address: usize) -> bool {
+        let is_held = |place: &Place| {
+            // In this order: see `Taken::hold`.
+            place.state.load(SeqCst) == address
+                || place.holds.iter().any(|hold| hold.load(SeqCst) == address)
+        };
+        point();
+        self.0.iter().any(is_held)
     }
 
     #[cold]
@@ -188,6 +306,12 @@ impl Places {
         self.with(|seat| seat.handle.measure())
     }
 
+    /// The hits and misses of a cache.
+    pub(crate) fn gets(&self) -> (u64, u64) {
+        let seats = self.0.iter().map(Place::lock);
+        seats.fold((0, 0), |sum, seat| (sum.0 + seat.hits, sum.1 + seat.misses))
+    }
+
     pub(crate) fn stats(&self) -> Stats {
         let (mut stats, mut settles) = (Stats::default(), 0);
         for place in &self.0 {
@@ -214,6 +338,28 @@ pub(crate) fn thread_number() -> usize {
         }
         number.get()
     })
+}
+
+#[test]
+fn what_somebody_reads_is_protected() {
+    let places = Places::open(1).unwrap();
+    let [first, second, third] = [0x100, 0x200, 0x300];
+    assert!(!places.protects(first));
+    // It opens the handle of its place.
+    let taken = places.pin(first).unwrap();
+    assert!(places.protects(first) && !places.protects(second));
+    taken.protect(second);
+    assert!(!places.protects(first) && places.protects(second));
+    let holds = [taken.hold(), taken.hold(), taken.hold()];
+    assert!(holds[0].is_some() && holds[1].is_some() && holds[2].is_none());
+    taken.protect(third);
+    drop(taken);
+    assert!(places.protects(second) && !places.protects(third));
+    let [hold, other, _] = holds;
+    drop(hold);
+    assert!(places.protects(second), "somebody else reads it");
+    drop(other);
+    assert!(!places.protects(second));
 }
 
 #[test]

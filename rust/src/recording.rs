@@ -1,5 +1,6 @@
-//! Recordings: what the calls of a group do, as records in format 4, by which `sfctl check --timed`
-//! judges whether the calls have kept the promises.
+//! Recordings: what the calls of a group or a cache do, as records in format 4, by which `sfctl check
+//! --timed` judges whether the calls have kept the promises. What follows is of a group; `ledger` has
+//! what a cache does.
 //!
 //! # How the recorder sees calls
 //!
@@ -22,8 +23,12 @@
 //! end where the load begins, an Enter's begin with the asking and end with the value, or where the
 //! caller has left, and a Forget's are those of the whole Forget.
 
+mod ledger;
+
 use crate::keyed::Id;
 use crate::places::thread_number;
+pub(crate) use ledger::{Came, Ledger, ValueRecord};
+use ledger::{Run, FAILED, NOT_FOUND};
 use std::collections::hash_map::{Entry as Found, RandomState};
 use std::collections::HashMap;
 use std::fmt;
@@ -38,7 +43,8 @@ use std::sync::{Arc, Condvar, Mutex, MutexGuard, OnceLock, PoisonError, TryLockE
 use std::thread::{self, JoinHandle};
 use std::time::{Duration, Instant};
 
-/// The reasons why [`Group::record`](crate::Group::record) began no recording.
+/// The reasons why [`Group::record`](crate::Group::record) or [`Cache::record`](crate::Cache::record)
+/// began no recording.
 ///
 /// ```
 /// use singleflight::{Group, RecordError};
@@ -51,7 +57,7 @@ use std::time::{Duration, Instant};
 #[derive(Debug)]
 #[non_exhaustive]
 pub enum RecordError {
-    /// The group is recorded already.
+    /// The group or cache is recorded already.
     AlreadyRecorded,
     /// There is no thread or no memory for the recording.
     NotStarted(io::Error),
@@ -61,7 +67,7 @@ impl fmt::Display for RecordError {
     fn fmt(&self, f: &mut fmt::Formatter<'_>) -> fmt::Result {
         match self {
             RecordError::AlreadyRecorded => {
-                f.write_str("the group is recorded already: stop its recording first")
+                f.write_str("it is recorded already: stop its recording first")
             }
             RecordError::NotStarted(why) => write!(f, "the recording was not started: {why}"),
         }
@@ -93,13 +99,17 @@ pub struct Recorded {
     pub events: u64,
     /// Events that were dropped, because the writer was too slow or memory was short.
     pub lost: u64,
+    /// Of a cache: recorded values that left to make room. They are no events, since a key may be
+    /// loaded again at any time.
+    pub evictions: u64,
 }
 
-/// A recording of a group. [`Group::record`](crate::Group::record) begins one.
+/// A recording of a group or a cache. [`Group::record`](crate::Group::record) or
+/// [`Cache::record`](crate::Cache::record) begins one.
 ///
 /// [`Recording::stop`] ends it. A recording that is dropped ends too, and the drop does not block:
 /// what was recorded before is written in the background, while the program runs. A recording also
-/// ends at the first write that fails, and when its group is freed.
+/// ends at the first write that fails, and when its group or cache is freed.
 ///
 /// ```
 /// use singleflight::Group;
@@ -117,7 +127,7 @@ pub struct Recording {
 
 impl Recording {
     /// Ends the recording, blocks until the rest is written and flushed, and returns how many
-    /// events were written. A call that has not ended yet is left out.
+    /// events were written. A call whose load has not ended yet is left out.
     ///
     /// # Errors
     /// The error of the writer, if a write failed, or what it panicked with. Then the recording
@@ -132,7 +142,7 @@ impl Recording {
     /// # Ok::<(), Box<dyn std::error::Error>>(())
     /// ```
     pub fn stop(mut self) -> io::Result<Recorded> {
-        self.recordings.end(&self.recorder);
+        self.end();
         let Some(writer) = self.writer.take() else { return Ok(Recorded::default()) };
         if writer.thread().id() == thread::current().id() {
             let why = "the writer of a recording cannot wait for itself";
@@ -140,11 +150,16 @@ impl Recording {
         }
         writer.join().unwrap_or_else(|panic| Err(panicked(panic)))
     }
+
+    /// Records nothing that has not ended, and does not wait for the writer.
+    pub(crate) fn end(&self) {
+        self.recordings.end(&self.recorder);
+    }
 }
 
 impl Drop for Recording {
     fn drop(&mut self) {
-        self.recordings.end(&self.recorder);
+        self.end();
     }
 }
 
@@ -188,8 +203,13 @@ pub(crate) fn now() -> u64 {
     if let Some(steps) = crate::schedules::steps() {
         return steps + 1;
     }
+    // What a thread does beside a schedule that is played is later than all its steps.
+    #[cfg(test)]
+    const BEGIN: u64 = 1 << 40;
+    #[cfg(not(test))]
+    const BEGIN: u64 = 1;
     static BEGAN: OnceLock<Instant> = OnceLock::new();
-    BEGAN.get_or_init(Instant::now).elapsed().as_nanos() as u64 + 1
+    BEGAN.get_or_init(Instant::now).elapsed().as_nanos() as u64 + BEGIN
 }
 
 /// The lane of this thread.
@@ -251,8 +271,7 @@ impl Recordings {
     /// The Forget that begins, if it is recorded; and whether it is of one call.
     #[inline]
     pub(crate) fn forgetting(&self, is_of_one: bool) -> Option<Forgetting> {
-        let noted = self.noted()?;
-        Some(Forgetting { by: noted.by, from: noted.from, is_of_one })
+        self.noted().map(|noted| noted.forgetting(is_of_one))
     }
 
     /// A Forget has ended, and has closed this call. If the Forget is not recorded, the call may be:
@@ -269,12 +288,13 @@ impl Recordings {
     pub(crate) fn begin(
         self: &Arc<Self>,
         out: impl Write + Send + 'static,
+        ledger: Option<Ledger>,
     ) -> Result<Recording, RecordError> {
         let mut current = lock(&self.current);
         if current.is_some() {
             return Err(RecordError::AlreadyRecorded);
         }
-        let recorder = Arc::new(Recorder::new().map_err(RecordError::NotStarted)?);
+        let recorder = Arc::new(Recorder::new(ledger).map_err(RecordError::NotStarted)?);
         let (own, recordings) = (recorder.clone(), self.clone());
         let run = move || {
             let said = catch_unwind(AssertUnwindSafe(|| own.write(out)));
@@ -340,6 +360,10 @@ pub(crate) struct Noted {
 }
 
 impl Noted {
+    pub(crate) fn forgetting(self, is_of_one: bool) -> Forgetting {
+        Forgetting { by: self.by, from: self.from, is_of_one }
+    }
+
     /// The record of a call that this asking leads.
     #[cold]
     pub(crate) fn record(self, key: &[u8], id: Id) -> Arc<CallRecord> {
@@ -362,6 +386,15 @@ impl Noted {
 const VALUE: u8 = 0;
 const PANIC: u8 = 1;
 const DROPPED: u8 = 2;
+
+/// Of a load that ends without an outcome.
+fn outcome_of_a_panic() -> u8 {
+    if thread::panicking() {
+        PANIC
+    } else {
+        DROPPED
+    }
+}
 
 /// The record of a call. The leader has a share, and so has each other part of the call.
 pub(crate) struct CallRecord {
@@ -417,7 +450,7 @@ impl CallRecord {
     /// Its load has ended without a value.
     #[cold]
     pub(crate) fn fails(&self) {
-        self.outcome.store(if thread::panicking() { PANIC } else { DROPPED }, Relaxed);
+        self.outcome.store(outcome_of_a_panic(), Relaxed);
     }
 
     /// It is about to be settled.
@@ -499,8 +532,18 @@ impl Drop for CallRecord {
         let name = *self.name.get_mut();
         let key = std::mem::take(&mut self.key);
         let asked = self.asked;
-        let call =
-            CallEvents { name, key, asked, led, settles, settled, outcome, members, closing };
+        let call = CallEvents {
+            name,
+            key,
+            asked,
+            led,
+            settles,
+            settled,
+            outcome,
+            members,
+            hits: 0,
+            closing,
+        };
         let recorder = &self.by.recorder;
         let ended = Ended { id: self.id, name, settles };
         // With the lock held: whoever leads the key next clears it later.
@@ -598,6 +641,7 @@ impl Remembered {
 enum Entry {
     Call(CallEvents),
     Forget(ForgetEvent),
+    Hit(HitEvent),
 }
 
 struct CallEvents {
@@ -609,7 +653,17 @@ struct CallEvents {
     settled: u64,
     outcome: u8,
     members: Vec<Member>,
+    /// The members of a cache's call, whose lines stand elsewhere.
+    hits: u64,
     closing: Option<Closing>,
+}
+
+/// A get that returned the value of this run of a cache, which another has loaded.
+struct HitEvent {
+    run: Arc<Run>,
+    name: u64,
+    from: u64,
+    to: u64,
 }
 
 /// A Forget that found no open call, or cleared the call with this name.
@@ -624,9 +678,15 @@ struct ForgetEvent {
 impl Entry {
     fn events(&self) -> u64 {
         match self {
-            Entry::Call(call) => 3 + call.members.len() as u64 + u64::from(call.closing.is_some()),
-            Entry::Forget(_) => 1,
+            Entry::Call(call) => call.events(),
+            Entry::Forget(_) | Entry::Hit(_) => 1,
         }
+    }
+}
+
+impl CallEvents {
+    fn events(&self) -> u64 {
+        3 + self.members.len() as u64 + u64::from(self.closing.is_some())
     }
 }
 
@@ -636,6 +696,7 @@ struct Kept {
     events: u64,
 }
 
+/// No two of them lie in one line of memory.
 #[repr(align(128))]
 #[derive(Default)]
 struct Lane {
@@ -651,14 +712,26 @@ struct Recorder {
     lanes: Box<[Lane]>,
     ended: Box<[Mutex<Remembered>]>,
     halves: Mutex<HashMap<Id, Half>>,
+    // Of a cache.
+    ledger: Option<Ledger>,
     // Events that were lost.
     missed: AtomicU64,
+    evictions: AtomicU64,
     // Whether nothing is recorded any more.
     is_over: AtomicBool,
     // Whether the writer's thread has to write the rest.
     ends: Mutex<bool>,
     wakes: Condvar,
     hashes: [RandomState; 2],
+}
+
+/// What has come of an entry that was offered to a recorder: it is refused where the recording is
+/// over, or where there is no memory for one that is needed.
+#[derive(PartialEq)]
+enum Offered {
+    Kept,
+    Lost,
+    Refused,
 }
 
 fn made<T: Default>(count: usize) -> io::Result<Box<[T]>> {
@@ -669,12 +742,15 @@ fn made<T: Default>(count: usize) -> io::Result<Box<[T]>> {
 }
 
 impl Recorder {
-    fn new() -> io::Result<Self> {
+    fn new(ledger: Option<Ledger>) -> io::Result<Self> {
         Ok(Recorder {
             lanes: made(LANES)?,
-            ended: made(REMEMBERED)?,
+            // The calls of a cache are in its ledger.
+            ended: made(if ledger.is_some() { 1 } else { REMEMBERED })?,
             halves: Mutex::default(),
+            ledger,
             missed: AtomicU64::new(0),
+            evictions: AtomicU64::new(0),
             is_over: AtomicBool::new(false),
             ends: Mutex::new(false),
             wakes: Condvar::new(),
@@ -689,7 +765,7 @@ impl Recorder {
     }
 
     fn remembered(&self, key: &[u8]) -> MutexGuard<'_, Remembered> {
-        lock(&self.ended[self.hashes[0].hash_one(key) as usize % REMEMBERED])
+        lock(&self.ended[self.hashes[0].hash_one(key) as usize % self.ended.len()])
     }
 
     // A Forget has closed the call, and has ended.
@@ -728,16 +804,28 @@ impl Recorder {
 
     // Whether the entry is kept.
     fn push(&self, entry: Entry) -> bool {
+        self.offer(entry, false) == Offered::Kept
+    }
+
+    // One that is needed is not lost: the caller has to keep it where it is refused.
+    fn offer(&self, entry: Entry, is_needed: bool) -> Offered {
         let (own, events) = (own_lane(), entry.events());
         for lane in (own..LANES).chain(0..own) {
-            let Some(mut kept) = try_lock(&self.lanes[lane].kept) else { continue };
+            let lane = &self.lanes[lane].kept;
+            let free = if is_needed { Some(lock(lane)) } else { try_lock(lane) };
+            let Some(mut kept) = free else { continue };
             // The thread that ends the recording says so first, and then takes each lane's lock.
             if self.is_over.load(SeqCst) {
-                return false;
+                return Offered::Refused;
             }
             let (before, after) = (kept.events, kept.events + events);
-            if before > 0 && after > EVENTS_OF_LANE || kept.entries.try_reserve(1).is_err() {
+            let is_full = before > 0 && after > EVENTS_OF_LANE && !is_needed;
+            if is_full || kept.entries.try_reserve(1).is_err() {
                 break;
+            }
+            if let Entry::Hit(hit) = &entry {
+                // With the lock held: whoever writes the call has taken what the lanes have.
+                hit.run.hits.fetch_add(1, SeqCst);
             }
             kept.entries.push(entry);
             kept.events = after;
@@ -745,10 +833,13 @@ impl Recorder {
             if before < EVENTS_THAT_WAKE && after >= EVENTS_THAT_WAKE {
                 self.wakes.notify_one();
             }
-            return true;
+            return Offered::Kept;
+        }
+        if is_needed {
+            return Offered::Refused;
         }
         self.missed.fetch_add(events, Relaxed);
-        false
+        Offered::Lost
     }
 
     // What is kept and not written is dropped.
@@ -757,6 +848,7 @@ impl Recorder {
         // said before.
         let halves = std::mem::take(&mut *lock(&self.halves));
         drop(halves);
+        self.ledger.iter().for_each(Ledger::empty);
         for lane in &self.lanes {
             drop(lane.take(Vec::new()));
         }
@@ -786,9 +878,17 @@ impl Recorder {
                     match entry {
                         Entry::Call(call) => pen.call(&call)?,
                         Entry::Forget(forget) => pen.forget(&forget)?,
+                        Entry::Hit(hit) => pen.hit(&hit)?,
                     }
                 }
                 room = entries;
+            }
+            if is_last {
+                // All lanes are empty, and stay so.
+                for call in self.ledger.iter().flat_map(Ledger::rest).flatten() {
+                    recorded.events += call.events();
+                    pen.call(&call)?;
+                }
             }
             let missed = self.missed.swap(0, Relaxed);
             if missed > 0 {
@@ -798,6 +898,7 @@ impl Recorder {
             pen.write()?;
             if is_last {
                 pen.out.flush()?;
+                recorded.evictions = self.evictions.load(Relaxed);
                 return Ok(recorded);
             }
         }
@@ -853,13 +954,8 @@ impl<W: Write> Pen<'_, W> {
             self.line()?,
             r#"{{"e":"lead","by":{leader},"k":"{key}","c":{name},"own":null,{led}}}"#
         )?;
-        for member in &call.members {
-            let (by, own) = (member.name >> 32, Name(member.name));
-            let times = Times(member.from, member.to);
-            writeln!(
-                self.line()?,
-                r#"{{"e":"enter","by":{by},"k":"{key}","c":{name},"m":{own},{times}}}"#
-            )?;
+        for Member { name: own, from, to } in &call.members {
+            self.enter(&key, name, Name(*own), Times(*from, *to))?;
         }
         if let Some(Closing { caller, from, to, is_of_one }) = call.closing {
             let times = Times(from, to);
@@ -875,15 +971,30 @@ impl<W: Write> Pen<'_, W> {
                 )?;
             }
         }
-        let (joiners, generation) = (call.members.len(), call.name as u32);
+        let (joiners, generation) = (call.members.len() as u64 + call.hits, call.name as u32);
         write!(self.line()?, r#"{{"e":"settle","by":{leader},"c":{name},"#)?;
         match call.outcome {
             VALUE => write!(self.text, r#""ok":"{leader}.{generation}""#)?,
             PANIC => write!(self.text, r#""err":"panic""#)?,
+            FAILED => write!(self.text, r#""err":"failed""#)?,
+            NOT_FOUND => write!(self.text, r#""err":"not found""#)?,
             _ => write!(self.text, r#""err":"dropped""#)?,
         }
         writeln!(self.text, r#","joiners":{joiners},{settled}}}"#)?;
         writeln!(self.line()?, r#"{{"e":"handed","by":{leader},"c":{name},{settled}}}"#)
+    }
+
+    fn enter(&mut self, key: &str, call: Name, own: Name, times: Times) -> io::Result<()> {
+        let by = own.0 >> 32;
+        writeln!(
+            self.line()?,
+            r#"{{"e":"enter","by":{by},"k":"{key}","c":{call},"m":{own},{times}}}"#
+        )
+    }
+
+    fn hit(&mut self, hit: &HitEvent) -> io::Result<()> {
+        let key = key_text(&hit.run.key, self.hashes);
+        self.enter(&key, Name(hit.run.name), Name(hit.name), Times(hit.from, hit.to))
     }
 
     fn forget(&mut self, forget: &ForgetEvent) -> io::Result<()> {
@@ -903,6 +1014,7 @@ impl<W: Write> Pen<'_, W> {
 }
 
 /// Two numbers of a call or member.
+#[derive(Clone, Copy)]
 struct Name(u64);
 
 impl fmt::Display for Name {

@@ -6,7 +6,7 @@
 //! that no Forget ended, that no answer is older than one that was returned before its asking
 //! began, or than a Forget that had returned, that a stamp that is current is of no value from
 //! before a Forget, that no caller joins a load whose value somebody had before it asked, that each
-//! who joined is counted, and that all calls are idle and all values dropped in the end.
+//! caller that joined is counted, and that all calls are idle and all values dropped in the end.
 //!
 //! Others are recorded, and their logs are judged: each is legal in time, by a clock that counts
 //! steps. Others again play a cache (`cached`).
@@ -14,8 +14,8 @@
 //! `SFLIGHT_SCHEDULES` says how many are drawn, `SFLIGHT_RECORDED` how many are recorded,
 //! `SFLIGHT_CACHED` how many play a cache, and `SFLIGHT_SEED` with which one each begins.
 
-use crate::{Caller, Group, Loaded, Stamp};
-use judge::Log;
+use crate::judge::{self, Log};
+use crate::{Caller, Group, Loaded, Recorded, Stamp, Stats};
 use std::cell::Cell;
 use std::collections::HashMap;
 use std::future::Future;
@@ -29,8 +29,6 @@ use std::task::{Context, Poll, Wake, Waker};
 use std::time::Duration;
 
 mod cached;
-#[path = "../tests/judge/mod.rs"]
-mod judge;
 mod stacks;
 
 const STACK: usize = 256 << 10;
@@ -78,7 +76,7 @@ pub(crate) fn point() {
     step(Step::Ready);
 }
 
-/// The same, where the turn often ends with a long stall.
+/// A step that others can see comes next: the turn may end, and often ends with a long stall.
 pub(crate) fn stall_point() {
     step(Step::Stalled);
 }
@@ -246,8 +244,8 @@ struct Value {
     live: Rc<Cell<i64>>,
     // When it was returned first, or 0.
     had: Cell<u64>,
-    // Whether its leader has returned and said that nobody joined, and whether somebody has
-    // returned it who joined.
+    // Whether its leader has returned and said that nobody joined, and whether a caller that joined
+    // has returned it.
     is_alone: Cell<bool>,
     is_joined: Cell<bool>,
 }
@@ -657,22 +655,7 @@ fn schedule(
         move || recording.set(Some(group.record(log.clone()).expect("a recording")))
     };
     let world = Rc::new(World::default());
-    let actors = if is_scene { 4 } else { 2 + random.below(3) as usize };
-    let turn = [1, 2, 4, 16][random.below(4) as usize];
-    let (acts, keys) = (1 + random.below(5), 1 + random.below(KEYS as u64));
-    let tasks = (0..actors).map(|number| {
-        let (world, group, random) = (world.clone(), group.clone(), Random::new(random.next()));
-        let script = if is_scene { SCENE[number] } else { &[] };
-        Box::new(move || {
-            let (caller, second) = (group.caller(), Some(group.caller()));
-            let last = HashMap::new();
-            let mut actor = Actor { world, group, caller, second, random, keys, script, last };
-            for _ in 0..acts {
-                actor.act();
-            }
-        }) as Task
-    });
-    let mut tasks: Vec<_> = tasks.collect();
+    let (turn, mut tasks) = actors(&mut random, is_scene, &world, &group);
     let recorded = Rc::new(Cell::new(None));
     let mut own = Random::new(!seed);
     if is_recorded && own.below(2) == 0 {
@@ -692,18 +675,57 @@ fn schedule(
     if is_recorded {
         let stopped = recording.take().map(|recording| recording.stop()).or(recorded.take());
         let recorded = stopped.expect("a recording").map_err(|why| why.to_string())?;
-        let text = log.text();
-        let (events, lost) = judge::read(&text)?;
-        judge::judge(&events).map_err(|why| format!("its log has no order: {why}"))?;
-        if (events.len() as u64, lost) != (recorded.events, 0) {
-            return Err(format!("{recorded:?} of {} events", events.len()));
-        }
+        judge_recorded(&log.text(), &recorded)?;
         all.events += recorded.events;
     }
-    let stats = group.stats();
     all.loads += world.loads.get();
     all.current += world.current.get();
     all.grown += u64::from(group.shared.places.size().tables > 1);
+    judge_counts(&group.stats(), &world)?;
+    drop(group);
+    if world.live.get() != 0 {
+        return Err(format!("{} values are left", world.live.get()));
+    }
+    Ok(())
+}
+
+// Draws the callers of a schedule: how many steps a turn has, and a task for each caller.
+fn actors(
+    random: &mut Random,
+    is_scene: bool,
+    world: &Rc<World>,
+    group: &Group<Value>,
+) -> (u64, Vec<Task>) {
+    let actors = if is_scene { 4 } else { 2 + random.below(3) as usize };
+    let turn = [1, 2, 4, 16][random.below(4) as usize];
+    let (acts, keys) = (1 + random.below(5), 1 + random.below(KEYS as u64));
+    let tasks = (0..actors).map(|number| {
+        let (world, group, random) = (world.clone(), group.clone(), Random::new(random.next()));
+        let script = if is_scene { SCENE[number] } else { &[] };
+        Box::new(move || {
+            let (caller, second) = (group.caller(), Some(group.caller()));
+            let last = HashMap::new();
+            let mut actor = Actor { world, group, caller, second, random, keys, script, last };
+            for _ in 0..acts {
+                actor.act();
+            }
+        }) as Task
+    });
+    (turn, tasks.collect())
+}
+
+// The log is legal in time, and has each event that was recorded.
+fn judge_recorded(text: &str, recorded: &Recorded) -> Result<(), String> {
+    let (events, lost) = judge::read(text)?;
+    judge::judge(&events).map_err(|why| format!("its log has no order: {why}"))?;
+    if (events.len() as u64, lost) != (recorded.events, 0) {
+        return Err(format!("{recorded:?} of {} events", events.len()));
+    }
+    Ok(())
+}
+
+// All calls are idle at the end, and the group has counted each load and each caller that joined.
+fn judge_counts(stats: &Stats, world: &World) -> Result<(), String> {
     if stats.in_use != 0 || stats.loads < world.loads.get() {
         return Err(format!("{} loads, and not all calls are idle: {stats:?}", world.loads.get()));
     }
@@ -712,10 +734,6 @@ fn schedule(
             "{} have joined, and not all are counted: {stats:?}",
             world.joined.get()
         ));
-    }
-    drop(group);
-    if world.live.get() != 0 {
-        return Err(format!("{} values are left", world.live.get()));
     }
     Ok(())
 }

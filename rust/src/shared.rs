@@ -1,12 +1,13 @@
 //! What the handles of a group share, and the steps of its calls: asking, settling and forgetting.
 //!
-//! The keyed group decides who leads, who joins, what a Forget ends and what is current. Here a
-//! leader's value gets to those who joined:
+//! The keyed group decides which caller leads, which ones join, what a Forget ends and what is
+//! current. Here a leader's value gets to those who joined:
 //!
 //! 1. The leader settles its call. From then on the next caller of the key leads a new one. If
 //!    nobody had joined, that is all.
 //! 2. It leaves at the post of the call what that came to: the value, how many had joined, and the
-//!    stamp, unless the call was forgotten. It wakes who waits there, and leaves the call.
+//!    stamp, unless the call was forgotten. It wakes the callers that wait there, and leaves the
+//!    call.
 //! 3. Whoever joined waits until the post has the value, takes its share, and leaves. The last that
 //!    leaves takes the post away.
 //!
@@ -58,11 +59,14 @@ impl<T> Shared<T> {
     #[inline]
     pub(crate) fn ask(&self, key: &[u8], asker: &mut Asker<T>) -> Result<Option<Join>, Crowded> {
         asker.abandon(self);
-        let noted = self.recordings.noted();
+        let mut noted = self.recordings.noted();
+        // A cache tells itself what its gets return.
+        let of_cache = noted.take_if(|noted| noted.is_of_cache());
         let mut tries = 0;
         loop {
             at("before ask");
             let mut is_early = false;
+            let locked = of_cache.as_ref().and_then(|noted| noted.locks(key));
             let asked = self.places.with(|seat| {
                 asker.lead = seat.take();
                 let asked = seat.handle.ask(asker.lead.as_mut()?, key, &mut asker.name);
@@ -76,6 +80,8 @@ impl<T> Shared<T> {
                 }
                 Some(asked)
             });
+            let locked = locked.filter(|_| matches!(asked, Some(Asked::Led)));
+            asker.value = locked.and_then(|locked| locked.leads(asker.name.id));
             match asked {
                 Some(Asked::Led) => {
                     at("asked");
@@ -126,7 +132,10 @@ impl<T> Shared<T> {
     #[inline]
     pub(crate) fn settle(&self, asker: &mut Asker<T>, got: Option<&mut Loaded<T>>) {
         at("before settle");
-        let record = asker.record.take();
+        let (record, value) = (asker.record.take(), asker.value.take());
+        if let Some(value) = &value {
+            value.ends(got.is_some());
+        }
         if let Some(record) = &record {
             if got.is_none() {
                 record.fails();
@@ -136,6 +145,9 @@ impl<T> Shared<T> {
         let audience = self.places.with(|seat| seat.settle(&mut asker.lead));
         if let Some(record) = &record {
             record.settled();
+        }
+        if let Some(value) = value {
+            value.settled(audience.is_some_and(|audience| audience.forgotten));
         }
         if let (Some(audience), Some(call)) = (audience, asker.lead.take()) {
             self.tell(&audience, call, &asker.name.id, got, record);
@@ -189,15 +201,14 @@ impl<T> Shared<T> {
 
     /// Forgets by a handle, again where others were quicker in each try.
     fn forgets<R>(&self, forget: impl Fn(&mut Handle) -> Result<R, Busy>) -> R {
+        self.forgets_until(|| self.tries_to_forget(&forget))
+    }
+
+    fn forgets_until<R>(&self, try_once: impl Fn() -> Result<R, Busy>) -> R {
         let mut tries = 0;
         loop {
             at("before forget");
-            let forgot = self.places.with(|seat| {
-                let forgot = forget(&mut seat.handle);
-                seat.forgets += u64::from(forgot.is_ok());
-                forgot
-            });
-            if let Ok(forgot) = forgot {
+            if let Ok(forgot) = try_once() {
                 at("forgotten");
                 return forgot;
             }
@@ -205,9 +216,35 @@ impl<T> Shared<T> {
         }
     }
 
+    fn tries_to_forget<R>(
+        &self,
+        forget: impl Fn(&mut Handle) -> Result<R, Busy>,
+    ) -> Result<R, Busy> {
+        self.places.with(|seat| {
+            let forgot = forget(&mut seat.handle);
+            seat.forgets += u64::from(forgot.is_ok());
+            forgot
+        })
+    }
+
+    /// Forgets a key of a cache that is recorded: whether that ended an open call.
+    #[cold]
+    fn forget_of_cache(&self, key: &[u8], noted: &Noted) -> bool {
+        self.forgets_until(|| {
+            let locked = noted.locks(key);
+            let closed = self.tries_to_forget(|handle| handle.forget(key))?;
+            locked.into_iter().for_each(|locked| locked.forgot(closed));
+            Ok(closed.is_some())
+        })
+    }
+
     /// Forgets the key: whether that ended an open call.
     pub(crate) fn forget(&self, key: &[u8]) -> bool {
-        let forgetting = self.recordings.forgetting(false);
+        let mut noted = self.recordings.noted();
+        if let Some(noted) = noted.take_if(|noted| noted.is_of_cache()) {
+            return self.forget_of_cache(key, &noted);
+        }
+        let forgetting = noted.map(|noted| noted.forgetting(false));
         let closed = self.forgets(|handle| handle.forget(key));
         match (closed, forgetting) {
             (Some(id), forgetting) => self.recordings.closed(forgetting, id),

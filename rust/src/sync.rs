@@ -8,7 +8,7 @@ use std::time::{Duration, Instant};
 #[inline(always)]
 pub(crate) fn point() {}
 
-/// The same, at a point with a name: the test of orders stops a caller there.
+/// A point of the schedule test that has a name: the test of orders stops a caller there.
 #[inline(always)]
 pub(crate) fn at(_: &str) {}
 
@@ -56,13 +56,19 @@ pub(crate) fn sleep<'a, T>(
     }
 }
 
+/// So many tries spin, and so many in all do not sleep: what another thread is about to do takes
+/// less than a turn of the scheduler, unless that thread does not run.
+const SPINS: u32 = 4;
+const TRIES_AWAKE: u32 = 64;
+const NAP: Duration = Duration::from_micros(100);
+
 /// Lets others go on before it tries again.
 #[cold]
 pub(crate) fn pause(tries: &mut u32) {
     *tries += 1;
     match *tries {
-        0..4 => std::hint::spin_loop(),
-        4..64 => std::thread::yield_now(),
-        _ => std::thread::sleep(Duration::from_micros(100)),
+        0..SPINS => std::hint::spin_loop(),
+        SPINS..TRIES_AWAKE => std::thread::yield_now(),
+        _ => std::thread::sleep(NAP),
     }
 }

@@ -1,7 +1,7 @@
 //! The cache: what it promises, each with a test.
 mod waits;
 
-use singleflight::{Cache, Error};
+use singleflight::{Cache, Error, Fetched};
 use std::future::Future;
 use std::panic::{catch_unwind, AssertUnwindSafe};
 use std::pin::{pin, Pin};
@@ -11,13 +11,13 @@ use std::task::{Context, Poll, Waker};
 use std::time::Duration;
 use waits::{ends, until};
 
-fn counted(limit: u64) -> (Cache<String>, Arc<Mutex<Vec<String>>>) {
+fn counted(limit: u64) -> (Cache<String, String>, Arc<Mutex<Vec<String>>>) {
     let left = Arc::new(Mutex::new(Vec::new()));
     let told = left.clone();
     let cache = Cache::builder(limit)
         .weigher(|_, value: &String| value.len() as u64)
-        .on_evict(move |key, value| {
-            told.lock().unwrap().push(format!("{} {value}", String::from_utf8_lossy(key)));
+        .on_evict(move |key, value, reason| {
+            told.lock().unwrap().push(format!("{key} {value} {reason:?}"));
         })
         .build()
         .unwrap();
@@ -42,7 +42,7 @@ fn a_value_is_loaded_once_and_found() {
 fn one_load_runs_between_two_invalidations() {
     const THREADS: usize = 4;
     const ROUNDS: u64 = 10_000;
-    let cache = Cache::<u64>::new(10);
+    let cache = Cache::<String, u64>::new(10);
     let (loads, barrier) = (AtomicU64::new(0), Barrier::new(THREADS));
     std::thread::scope(|scope| {
         for _ in 0..THREADS {
@@ -63,7 +63,7 @@ fn one_load_runs_between_two_invalidations() {
 
 #[test]
 fn keys_of_every_length_are_told_apart() {
-    let cache = Cache::new(1000);
+    let cache = Cache::<Vec<u8>, usize>::new(1000);
     let key: Vec<u8> = (0..=255).cycle().take(5000).collect();
     let lengths = [0, 1, 7, 8, 15, 16, 17, 32, 39, 40, 41, 64, 4096, 5000];
     for len in lengths {
@@ -73,14 +73,14 @@ fn keys_of_every_length_are_told_apart() {
     for len in lengths {
         assert_eq!(cache.get(&key[..len]).as_deref(), Some(&len));
     }
-    assert_eq!(cache.get([1]), None);
+    assert_eq!(cache.get([1].as_slice()), None);
 }
 
 #[test]
 fn the_weight_is_within_the_limit() {
     let (cache, left) = counted(100);
     for number in 0..50 {
-        cache.get_or_load(format!("{number}"), || "x".repeat(30));
+        cache.get_or_load(&format!("{number}"), || "x".repeat(30));
         assert!(cache.stats().weight <= 100);
     }
     let stats = cache.stats();
@@ -99,16 +99,16 @@ fn the_weight_is_within_the_limit() {
 
 #[test]
 fn what_was_found_lately_stays() {
-    let cache: Cache<()> = Cache::builder(2000).entries(50_000).build().unwrap();
+    let cache: Cache<u32, ()> = Cache::builder(2000).entries(50_000).build().unwrap();
     for round in 0..10 {
         for key in 0..200u32 {
-            cache.get_or_load(key.to_le_bytes(), || ());
+            cache.get_or_load(&key, || ());
         }
         for key in 0..1500u32 {
-            cache.get_or_load((10_000 + 1500 * round + key).to_le_bytes(), || ());
+            cache.get_or_load(&(10_000 + 1500 * round + key), || ());
         }
     }
-    let kept = (0..200u32).filter(|key| cache.get(key.to_le_bytes()).is_some()).count();
+    let kept = (0..200u32).filter(|key| cache.get(key).is_some()).count();
     assert!(kept > 160, "{kept} of 200 keys that are in use are left");
 }
 
@@ -122,7 +122,7 @@ fn each_entry_that_leaves_is_told_once() {
     cache.insert("b", "3".into());
     cache.invalidate_all();
     cache.invalidate_all();
-    assert_eq!(*left.lock().unwrap(), ["a 1", "b 2", "b 3"]);
+    assert_eq!(*left.lock().unwrap(), ["a 1 Forgotten", "b 2 Forgotten", "b 3 Forgotten"]);
     assert_eq!((cache.stats().weight, cache.stats().evictions), (0, 0));
 }
 
@@ -131,9 +131,9 @@ fn each_entry_that_leaves_is_told_once() {
 fn an_entry_that_is_loaded_again_is_told() {
     let left = Arc::new(Mutex::new(Vec::new()));
     let told = left.clone();
-    let cache: Cache<u32> = Cache::builder(10)
+    let cache: Cache<String, u32> = Cache::builder(10)
         .time_to_live(Duration::ZERO)
-        .on_evict(move |_, value| told.lock().unwrap().push(**value))
+        .on_evict(move |_, value, _| told.lock().unwrap().push(**value))
         .build()
         .unwrap();
     for value in [1, 2, 3] {
@@ -146,22 +146,22 @@ fn an_entry_that_is_loaded_again_is_told() {
 #[test]
 fn a_listener_may_use_the_cache() {
     ends("a listener that uses the cache", || {
-        let own: Arc<Mutex<Weak<Cache<u32>>>> = Arc::default();
+        let own: Arc<Mutex<Weak<Cache<u32, u32>>>> = Arc::default();
         let told = own.clone();
         let depth = AtomicUsize::new(0);
-        let cache = Cache::builder(1).on_evict(move |_, value| {
+        let cache = Cache::builder(1).on_evict(move |_, value, _| {
             let cache = told.lock().unwrap().upgrade();
             if depth.fetch_add(1, SeqCst) < 5 {
                 let cache = cache.expect("it lives");
-                cache.get_or_load("left", || **value + 1);
-                cache.invalidate("left");
+                cache.get_or_load(&1_000, || **value + 1);
+                cache.invalidate(&1_000);
                 cache.stats();
             }
         });
         let cache = Arc::new(cache.build().unwrap());
         *own.lock().unwrap() = Arc::downgrade(&cache);
         for key in 0..10u32 {
-            cache.get_or_load(key.to_le_bytes(), || key);
+            cache.get_or_load(&key, || key);
         }
         assert!(cache.stats().weight <= 1);
     });
@@ -169,12 +169,12 @@ fn a_listener_may_use_the_cache() {
 
 #[test]
 fn a_listener_that_panics_takes_no_room() {
-    let cache: Cache<u32> =
-        Cache::builder(10).on_evict(|_, _| panic!("on purpose")).build().unwrap();
+    let cache: Cache<u32, u32> =
+        Cache::builder(10).on_evict(|_, _, _| panic!("on purpose")).build().unwrap();
     for key in 0..8u32 {
-        cache.get_or_load(key.to_le_bytes(), || key);
+        cache.get_or_load(&key, || key);
     }
-    assert!(catch_unwind(AssertUnwindSafe(|| cache.invalidate([0; 4]))).is_err());
+    assert!(catch_unwind(AssertUnwindSafe(|| cache.invalidate(&0))).is_err());
     assert_eq!(cache.weight(), 7);
     while cache.stats().entries > 0 {
         assert!(catch_unwind(AssertUnwindSafe(|| cache.invalidate_all())).is_err());
@@ -203,8 +203,8 @@ fn a_value_is_freed_when_it_has_left() {
 fn what_is_remembered_is_freed_when_it_has_left() {
     let told = Arc::new(AtomicUsize::new(0));
     let count = told.clone();
-    let cache: Cache<u32> = Cache::builder(1)
-        .on_evict(move |_, value| {
+    let cache: Cache<String, u32> = Cache::builder(1)
+        .on_evict(move |_, value, _| {
             assert_eq!(Arc::strong_count(value), 1, "what has left is remembered");
             count.fetch_add(1, SeqCst);
         })
@@ -229,7 +229,7 @@ fn what_is_remembered_is_freed_when_it_has_left() {
 #[test]
 fn a_read_may_use_the_cache() {
     // So many hash slots that the two keys share one by a rare chance only.
-    let cache = Cache::<u32>::builder(2).loads(1 << 14).build().unwrap();
+    let cache = Cache::<String, u32>::builder(2).loads(1 << 14).build().unwrap();
     assert_eq!(cache.read("key", |_| unreachable!("it is empty")), None::<()>);
     cache.get_or_load("key", || 1);
     for round in 0..5 {
@@ -260,7 +260,7 @@ fn a_read_may_use_the_cache() {
 // so that it lives whatever becomes of its entry.
 #[test]
 fn what_is_remembered_is_as_new_as_the_rest() {
-    let cache = Cache::<u32>::new(2);
+    let cache = Cache::<String, u32>::new(2);
     let remembered = |value: u32| {
         let held = cache.get_or_load("key", || value);
         for _ in 0..40 {
@@ -282,7 +282,7 @@ fn what_is_remembered_is_as_new_as_the_rest() {
 #[test]
 fn what_is_remembered_gets_too_old() {
     let time = Duration::from_millis(100);
-    let cache: Cache<u32> = Cache::builder(2).time_to_live(time).build().unwrap();
+    let cache: Cache<String, u32> = Cache::builder(2).time_to_live(time).build().unwrap();
     let begun = std::time::Instant::now();
     let held = cache.get_or_load("key", || 1);
     // On a busy machine it may be too old before it is remembered.
@@ -295,16 +295,16 @@ fn what_is_remembered_gets_too_old() {
 
 #[test]
 fn a_hot_key_stays() {
-    let cache: Cache<u32> = Cache::builder(500).entries(50_000).build().unwrap();
+    let cache: Cache<u32, u32> = Cache::builder(500).entries(50_000).build().unwrap();
     let loads = AtomicUsize::new(0);
     for round in 0..20_000u32 {
-        cache.get_or_load("hot", || {
+        cache.get_or_load(&u32::MAX, || {
             loads.fetch_add(1, SeqCst);
             1
         });
         // Found once, these come into the main queue, where the hot key stands by its marks alone.
         for _ in 0..2 {
-            cache.get_or_load(round.to_le_bytes(), || 2);
+            cache.get_or_load(&round, || 2);
         }
     }
     // The first eviction may meet it twice, since all others were found too: then it is loaded again.
@@ -316,14 +316,14 @@ fn a_hot_key_stays() {
 #[test]
 fn a_hot_key_stays_in_a_cache_of_few() {
     for limit in [2, 3, 10, 100] {
-        let cache: Cache<u32> = Cache::builder(limit).entries(50_000).build().unwrap();
+        let cache: Cache<u32, u32> = Cache::builder(limit).entries(50_000).build().unwrap();
         let loads = AtomicUsize::new(0);
         for round in 0..1_000u32 {
-            cache.get_or_load("hot", || {
+            cache.get_or_load(&u32::MAX, || {
                 loads.fetch_add(1, SeqCst);
                 1
             });
-            cache.get_or_load(round.to_le_bytes(), || 2);
+            cache.get_or_load(&round, || 2);
         }
         let loads = loads.into_inner();
         assert!(
@@ -336,46 +336,46 @@ fn a_hot_key_stays_in_a_cache_of_few() {
 // Its room comes from all shards: in each some of the keys that were asked for once leave.
 #[test]
 fn a_heavy_value_pushes_out_no_key_that_was_found() {
-    let cache: Cache<u32> = Cache::builder(10_000)
+    let cache: Cache<u32, u32> = Cache::builder(10_000)
         .entries(50_000)
         .weigher(|_, value| u64::from(*value))
         .build()
         .unwrap();
     for key in (0..2_000u32).chain(0..2_000).chain(10_000..18_000) {
-        cache.get_or_load(key.to_le_bytes(), || 1);
+        cache.get_or_load(&key, || 1);
     }
-    for heavy in ["a", "b"] {
+    for heavy in [&50_000, &60_000] {
         cache.get_or_load(heavy, || 2_000);
     }
     assert_eq!(cache.weight(), 10_000);
-    let kept = (0..2_000u32).filter(|key| cache.get(key.to_le_bytes()).is_some()).count();
+    let kept = (0..2_000u32).filter(|key| cache.get(key).is_some()).count();
     assert!(kept > 1_900, "{kept} of 2,000 keys that were found are left");
 }
 
 // More are asked for once than the cache has ghosts, so keys that were found stay by their marks.
 #[test]
 fn keys_that_are_asked_for_once_push_out_none_that_was_found() {
-    let cache: Cache<u32> = Cache::builder(5_000).entries(50_000).build().unwrap();
+    let cache: Cache<u32, u32> = Cache::builder(5_000).entries(50_000).build().unwrap();
     for key in (0..1_000u32).chain(0..1_000).chain(10_000..30_000) {
-        cache.get_or_load(key.to_le_bytes(), || key);
+        cache.get_or_load(&key, || key);
     }
-    let kept = (0..1_000u32).filter(|key| cache.get(key.to_le_bytes()).is_some()).count();
+    let kept = (0..1_000u32).filter(|key| cache.get(key).is_some()).count();
     assert!(kept > 900, "{kept} of 1,000 keys that were found are left");
 }
 
 // The keys in use are others after a while. The old ones leave, and not the newest.
 #[test]
 fn older_entries_make_room() {
-    let cache: Cache<u32> = Cache::builder(500).entries(50_000).build().unwrap();
+    let cache: Cache<u32, u32> = Cache::builder(500).entries(50_000).build().unwrap();
     for old in 0..500u32 {
         for _ in 0..2 {
-            cache.get_or_load(old.to_le_bytes(), || 1);
+            cache.get_or_load(&old, || 1);
         }
     }
     let before = cache.stats().loads;
     for _ in 0..10 {
         for new in 1_000..1_250u32 {
-            cache.get_or_load(new.to_le_bytes(), || 2);
+            cache.get_or_load(&new, || 2);
         }
     }
     let loads = cache.stats().loads - before;
@@ -432,7 +432,7 @@ fn an_insert_tells_whether_its_value_is_kept() {
     assert!(cache.insert("key", "abc".into()) && !cache.insert("key", "abcd".into()));
     assert_eq!(cache.get("key"), None, "an older value is kept");
     // More loads run than it expects.
-    let cache: Cache<u32> = Cache::builder(10).loads(1).build().unwrap();
+    let cache: Cache<String, u32> = Cache::builder(10).loads(1).build().unwrap();
     assert!(cache.insert("key", 1));
     cache.get_or_load("other", || {
         assert!(cache.insert("key", 2) && cache.get("key").as_deref() == Some(&2));
@@ -443,7 +443,7 @@ fn an_insert_tells_whether_its_value_is_kept() {
 
 #[test]
 fn an_insert_by_a_token_loses_to_each_invalidation_since() {
-    type Invalidate = fn(&Cache<u32>);
+    type Invalidate = fn(&Cache<String, u32>);
     let later: [(&str, Invalidate); 4] = [
         ("a later write", |cache| cache.invalidate("key")),
         ("a later insert", |cache| assert!(cache.insert("key", 3))),
@@ -453,7 +453,7 @@ fn an_insert_by_a_token_loses_to_each_invalidation_since() {
     for (what, invalidate) in later {
         let cache = Cache::new(100);
         let token = cache.write_token("key");
-        let others: Vec<_> = (0..50u8).map(|other| cache.write_token([other])).collect();
+        let others: Vec<_> = (0..50).map(|other| cache.write_token(&format!("{other}"))).collect();
         invalidate(&cache);
         // The value of a later insert goes too: nobody knows which was the later write.
         assert!(!token.insert(1), "{what}: it is said to be kept");
@@ -479,7 +479,7 @@ fn a_token_may_go_to_another_thread_and_may_be_dropped() {
 
 #[test]
 fn errors_are_shared_and_not_kept() {
-    let cache = Cache::<u32, String>::builder(10).build().unwrap();
+    let cache = Cache::<String, u32, String>::builder(10).build().unwrap();
     std::thread::scope(|scope| {
         for _ in 0..4 {
             scope.spawn(|| {
@@ -498,7 +498,7 @@ fn errors_are_shared_and_not_kept() {
 
 #[test]
 fn a_panic_goes_on_and_leaves_nothing() {
-    let cache = Cache::<u32>::new(10);
+    let cache = Cache::<String, u32>::new(10);
     let panics =
         catch_unwind(AssertUnwindSafe(|| cache.get_or_load("key", || panic!("on purpose"))));
     assert!(panics.is_err());
@@ -507,7 +507,7 @@ fn a_panic_goes_on_and_leaves_nothing() {
 
 #[test]
 fn a_time_to_live_ends() {
-    let cache: Cache<u32> =
+    let cache: Cache<String, u32> =
         Cache::builder(10).time_to_live(Duration::from_millis(30)).build().unwrap();
     let begun = std::time::Instant::now();
     cache.get_or_load("key", || 7);
@@ -517,20 +517,69 @@ fn a_time_to_live_ends() {
     std::thread::sleep(Duration::from_millis(40));
     assert_eq!(cache.get("key"), None);
     assert_eq!(*cache.get_or_load("key", || 8), 8);
-    let endless: Cache<u32> = Cache::builder(10).time_to_live(Duration::MAX).build().unwrap();
+    let endless: Cache<String, u32> =
+        Cache::builder(10).time_to_live(Duration::MAX).build().unwrap();
     endless.get_or_load("key", || 7);
     assert!(endless.get("key").is_some());
 }
 
 #[test]
 fn numbers_out_of_range_are_refused() {
-    assert_eq!(Cache::<u32>::builder(10).loads(0).build().err(), Some(Error::Loads(0)));
+    assert_eq!(Cache::<String, u32>::builder(10).loads(0).build().err(), Some(Error::Loads(0)));
     assert!(matches!(
-        Cache::<u32>::builder(10).loads(u32::MAX).build().err(),
+        Cache::<String, u32>::builder(10).loads(u32::MAX).build().err(),
         Some(Error::Loads(u32::MAX))
     ));
     let none = Cache::new(0);
     assert_eq!((*none.get_or_load("key", || 7), none.get("key")), (7, None));
+}
+
+// There may be no memory for so many: that is an error, and not the end of the process.
+#[test]
+fn any_number_of_entries_is_a_hint() {
+    let numbers = [0, 1, 3, u32::MAX.into(), 1 << 40, u64::MAX / 3 * 2, u64::MAX - 1, u64::MAX];
+    for entries in numbers {
+        for limit in numbers {
+            let built = Cache::<String, u32>::builder(limit).entries(entries).build();
+            let cache = match built {
+                Ok(cache) => cache,
+                Err(why) => {
+                    assert_eq!(why, Error::OutOfMemory);
+                    assert!(entries.min(limit) > 3, "{entries} of {limit}");
+                    continue;
+                }
+            };
+            for number in 0..100 {
+                assert_eq!(*cache.get_or_load(&number.to_string(), || number), number);
+            }
+            assert_eq!(cache.weight(), limit.min(100), "{entries} of {limit}");
+            cache.invalidate_tag("tag");
+            cache.resize(2);
+            assert_eq!(cache.weight(), limit.min(2), "{entries} of {limit}");
+        }
+    }
+}
+
+#[test]
+fn lifetimes_may_be_of_any_length() {
+    let times =
+        [Duration::ZERO, Duration::from_nanos(1), Duration::from_nanos(u64::MAX), Duration::MAX];
+    for time in times {
+        for part in [f64::NAN, f64::NEG_INFINITY, -1.0, 0.0, 0.5, 1.0, f64::INFINITY] {
+            let builder = Cache::<String, u32, ()>::builder(u64::MAX).jitter(part);
+            let builder =
+                builder.time_to_idle(time).stale_if_error(time).error_ttl(move |()| Some(time));
+            let builder = builder.loader(|_| Ok(8)).refresh_after(time).weigher(|_, _| u64::MAX);
+            let cache = builder.time_to_live(time).build().unwrap();
+            let load = move || Ok(Fetched::new(7).ttl(time));
+            assert_eq!(cache.get_or_fetch("key", load).as_deref(), Ok(&7));
+            let lives = time > Duration::from_secs(1) && part != 1.0 && part != f64::INFINITY;
+            assert!(!lives || cache.get("key").is_some(), "{time:?} and {part}");
+            assert!(cache.get_or_load_timeout("key", Duration::MAX, load).is_ok());
+            cache.invalidate("key");
+            assert!(cache.try_get_or_load("key", || Err(())).is_err());
+        }
+    }
 }
 
 /// A future that is ready at its second poll.
@@ -552,8 +601,8 @@ impl Future for Later {
 fn tasks_load_once_and_may_be_dropped() {
     let left = Arc::new(AtomicUsize::new(0));
     let told = left.clone();
-    let cache: Cache<u32> = Cache::builder(10)
-        .on_evict(move |_, _| {
+    let cache: Cache<String, u32> = Cache::builder(10)
+        .on_evict(move |_, _, _| {
             told.fetch_add(1, SeqCst);
         })
         .build()
@@ -583,7 +632,7 @@ fn gets_beside_writes(gets: u64, all: bool) {
     // Each change: an odd version is written, the key invalidated, and the next even version told.
     let versions: Vec<AtomicU64> = (0..KEYS).map(|_| AtomicU64::new(0)).collect();
     let live = Arc::new(());
-    let cache: Cache<(usize, u64, Arc<()>)> = Cache::builder(48).build().unwrap();
+    let cache: Cache<usize, (usize, u64, Arc<()>)> = Cache::builder(48).build().unwrap();
     let (stop, old, wrong, heavy) =
         (AtomicBool::new(false), AtomicU64::new(0), AtomicU64::new(0), AtomicU64::new(0));
     let step = |state: &mut u64| {
@@ -602,8 +651,8 @@ fn gets_beside_writes(gets: u64, all: bool) {
                         let seen = versions[key].load(SeqCst);
                         let load = || (key, versions[key].load(SeqCst), live.clone());
                         let got = match turn % 3 {
-                            0 => cache.get(key.to_le_bytes()),
-                            _ => Some(cache.get_or_load(key.to_le_bytes(), load)),
+                            0 => cache.get(&key),
+                            _ => Some(cache.get_or_load(&key, load)),
                         };
                         let Some(got) = got else { continue };
                         if got.0 != key {
@@ -622,9 +671,9 @@ fn gets_beside_writes(gets: u64, all: bool) {
                 let key = step(&mut state);
                 let version = versions[key].fetch_add(1, SeqCst) + 1;
                 match turn % 8 {
-                    0 => drop(cache.insert(key.to_le_bytes(), (key, version, live.clone()))),
+                    0 => drop(cache.insert(&key, (key, version, live.clone()))),
                     1 if all => cache.invalidate_all(),
-                    _ => cache.invalidate(key.to_le_bytes()),
+                    _ => cache.invalidate(&key),
                 }
                 versions[key].fetch_add(1, SeqCst);
                 if cache.weight() > 48 {
@@ -659,11 +708,11 @@ fn no_get_of_ten_million_has_an_older_value() {
 
 #[test]
 fn an_insert_loses_to_an_invalidation_that_begins_meanwhile() {
-    let own: Arc<Mutex<Weak<Cache<u32>>>> = Arc::default();
+    let own: Arc<Mutex<Weak<Cache<String, u32>>>> = Arc::default();
     let told = own.clone();
     let is_first = AtomicBool::new(true);
     // The listener is called between the insert's own invalidation and its call.
-    let cache = Cache::builder(10).on_evict(move |_, _| {
+    let cache = Cache::builder(10).on_evict(move |_, _, _| {
         if is_first.swap(false, SeqCst) {
             told.lock().unwrap().upgrade().expect("it lives").invalidate("key");
         }
@@ -680,7 +729,7 @@ fn an_insert_loses_to_an_invalidation_that_begins_meanwhile() {
 #[test]
 fn what_was_invalidated_while_it_was_put_down_is_not_found() {
     for by_weigher in [false, true] {
-        let own: Arc<Mutex<Weak<Cache<u32>>>> = Arc::default();
+        let own: Arc<Mutex<Weak<Cache<String, u32>>>> = Arc::default();
         let told = own.clone();
         let invalidate = move || {
             told.lock().unwrap().upgrade().expect("it lives").invalidate("key");
@@ -688,13 +737,13 @@ fn what_was_invalidated_while_it_was_put_down_is_not_found() {
         let weighs = invalidate.clone();
         let cache = Cache::builder(1)
             .weigher(move |key, value| {
-                if by_weigher && key == b"key" && *value == 2 {
+                if by_weigher && key == "key" && *value == 2 {
                     weighs();
                 }
                 1
             })
-            .on_evict(move |key, _| {
-                if !by_weigher && key == b"first" {
+            .on_evict(move |key, _, _| {
+                if !by_weigher && key == "first" {
                     invalidate();
                 }
             });
@@ -714,7 +763,7 @@ fn what_was_invalidated_while_it_was_put_down_is_not_found() {
 fn a_value_is_kept_before_its_load_ends_for_others() {
     let (weighs, goes_on) = (Arc::new(Barrier::new(2)), Arc::new(Barrier::new(2)));
     let stops = (weighs.clone(), goes_on.clone());
-    let cache = Cache::<u32>::builder(10).weigher(move |_, _| {
+    let cache = Cache::<String, u32>::builder(10).weigher(move |_, _| {
         stops.0.wait();
         stops.1.wait();
         1
@@ -745,10 +794,10 @@ fn a_value_is_kept_before_its_load_ends_for_others() {
 #[test]
 fn a_listener_may_get_the_key_that_was_loaded() {
     ends("a listener that gets the key", || {
-        let own: Arc<Mutex<Weak<Cache<u32>>>> = Arc::default();
+        let own: Arc<Mutex<Weak<Cache<String, u32>>>> = Arc::default();
         let told = own.clone();
-        let cache = Cache::builder(1).on_evict(move |key, _| {
-            if key == b"first" {
+        let cache = Cache::builder(1).on_evict(move |key, _, _| {
+            if key == "first" {
                 let cache = told.lock().unwrap().upgrade().expect("it lives");
                 cache.invalidate("key");
                 assert_eq!(*cache.get_or_load("key", || 3), 3);
@@ -764,10 +813,10 @@ fn a_listener_may_get_the_key_that_was_loaded() {
 
 #[test]
 fn an_insert_loses_to_an_invalidation_of_all_that_begins_meanwhile() {
-    let own: Arc<Mutex<Weak<Cache<u32>>>> = Arc::default();
+    let own: Arc<Mutex<Weak<Cache<String, u32>>>> = Arc::default();
     let told = own.clone();
     let is_first = AtomicBool::new(true);
-    let cache = Cache::builder(10).on_evict(move |_, _| {
+    let cache = Cache::builder(10).on_evict(move |_, _, _| {
         if is_first.swap(false, SeqCst) {
             told.lock().unwrap().upgrade().expect("it lives").invalidate_all();
         }

@@ -1,7 +1,8 @@
 //! What the documents of the crate say, item by item.
 mod waits;
 
-use singleflight::{Error, ForgetOutcome, Group, Loaded, Stamp};
+use singleflight::{Cache, Error, ForgetOutcome, Group, Loaded, Stamp};
+use std::cell::RefCell;
 use std::future::Future;
 use std::panic::{catch_unwind, AssertUnwindSafe};
 use std::pin::{pin, Pin};
@@ -435,4 +436,35 @@ fn a_caller_that_is_dropped_ends_what_it_led() {
     assert!(group.stats().in_use == 1 && receiver.try_recv().is_err(), "the call is open");
     drop(first);
     assert!(group.stats().in_use == 0 && receiver.recv().is_err(), "and has ended");
+}
+
+// Its thread-locals are dropped one after the other by then.
+#[test]
+fn a_thread_that_ends_may_ask() {
+    struct AtExit(Group<u32>, Cache<u32, u32>);
+    impl Drop for AtExit {
+        fn drop(&mut self) {
+            self.0.get_or_load("key", || 7);
+            self.0.forget("key");
+            self.1.get_or_load(&3, || 7);
+            self.1.get_or_load(&3, || 8);
+        }
+    }
+    thread_local!(static AT_EXIT: RefCell<Option<AtExit>> = const { RefCell::new(None) });
+    for asks_before in [false, true] {
+        let (group, cache) = (open(1), Cache::new(10));
+        let at_exit = AtExit(group.clone(), cache.clone());
+        let run = move || {
+            let set = |at_exit| AT_EXIT.set(Some(at_exit));
+            match asks_before {
+                true => {
+                    at_exit.0.forget("key");
+                    set(at_exit);
+                }
+                false => set(at_exit),
+            }
+        };
+        std::thread::spawn(run).join().unwrap();
+        assert_eq!((group.stats().loads, cache.stats().hits), (1, 1));
+    }
 }

@@ -708,7 +708,9 @@ fn a_writer_that_calls_the_group() {
     });
     recording.stop().unwrap();
     let text = log.text();
-    assert!(legal(&text).iter().filter(|it| it.kind == "forget").count() == 3, "{text}");
+    // Its first calls may come before the recording has begun: what is written first is the head.
+    let forgets = legal(&text).iter().filter(|it| it.kind == "forget").count();
+    assert!((2..=3).contains(&forgets), "{text}");
 }
 
 // One that stops its own recording would wait for itself.
@@ -743,9 +745,10 @@ fn pause(random: u64) {
 fn stressed(group: &Group<u64>, seed: u64, calls: u64) {
     let mut random = Random(seed * 0x9e37_79b9 + 1);
     let mut caller: Caller<u64> = group.caller();
-    let mut got = Vec::new();
+    let mut all: [Vec<_>; 5] = std::array::from_fn(|_| Vec::new());
     for _ in 0..calls {
-        let (key, wait) = (format!("key-{}", random.below(5)), random.below(1 << 20));
+        let (number, wait) = (random.below(5), random.below(1 << 20));
+        let (key, got) = (format!("key-{number}"), &mut all[number as usize]);
         let load = || {
             pause(wait);
             wait
@@ -810,6 +813,8 @@ fn stressed(group: &Group<u64>, seed: u64, calls: u64) {
             18..20 => drop(group.forget(&key)),
             20 => drop(caller.forget(&key)),
             _ => {
+                // A call of this key: for one of another key, which may share the hash slot, the log
+                // would be wrong.
                 let last = got.pop().and_then(|got| got.call());
                 if let Some(call) = last {
                     group.forget_call(&key, call);

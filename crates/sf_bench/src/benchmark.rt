@@ -28,14 +28,12 @@ pub enum Benchmark {
     Place,
     /// To do by key, each thread with a key of its own.
     Key,
-    /// To lead, join, settle and forget by key, without waiting.
-    Keyed,
     /// To get a key that a fill's cache has.
     Fill,
 }
 
 /// All of them, in the order in which they run.
-pub const ALL: [Benchmark; 11] = [
+pub const ALL: [Benchmark; 10] = [
     Benchmark::Lookup,
     Benchmark::Lead,
     Benchmark::Join,
@@ -45,7 +43,6 @@ pub const ALL: [Benchmark; 11] = [
     Benchmark::Hot,
     Benchmark::Place,
     Benchmark::Key,
-    Benchmark::Keyed,
     Benchmark::Fill,
 ];
 
@@ -64,7 +61,6 @@ impl Benchmark {
             Benchmark::Hot => "hot",
             Benchmark::Place => "place",
             Benchmark::Key => "key",
-            Benchmark::Keyed => "keyed",
             Benchmark::Fill => "fill",
         }
     }
@@ -83,7 +79,6 @@ impl Benchmark {
             "hot" => Some(Benchmark::Hot),
             "place" => Some(Benchmark::Place),
             "key" => Some(Benchmark::Key),
-            "keyed" => Some(Benchmark::Keyed),
             "fill" => Some(Benchmark::Fill),
             _ => None,
         }
@@ -97,6 +92,6 @@ pub fn write_names<W: Write>(writer: &mut W) -> Result<(), StreamFault>
 {
     write_all(
         writer,
-        "lookup\nlead\njoin\nforget\ncurrent\ndistinct\nhot\nplace\nkey\nkeyed\nfill\n",
+        "lookup\nlead\njoin\nforget\ncurrent\ndistinct\nhot\nplace\nkey\nfill\n",
     )
 }

@@ -95,7 +95,7 @@ impl<'a> Operation for DoKey<'a> {
             key,
         } = self;
         let caller = match do_key(rt, group, places, caller, key.key(), ROUNDS, || key) {
-            Ok(KeyAnswer::Letter(caller, letter)) => {
+            Ok(KeyAnswer::Letter(caller, letter, _)) => {
                 drop(letter);
                 caller
             }

@@ -1,13 +1,11 @@
-//! `sf_bench` measures what the calls of the directory, the group, the keyed group, the waiting forms and the fill cost on this machine, and
+//! `sf_bench` measures what the calls of the directory, the group, the waiting forms and the fill cost on this machine, and
 //! prints a table. Its words are names of benchmarks, `--list` for the names, or none for all.
 #![tactic(auto)]
 
 mod asking;
 mod benchmark;
-mod chains;
 mod fault;
 mod filling;
-mod keyed;
 mod keys;
 mod looking;
 mod order;
@@ -54,7 +52,6 @@ where
         Benchmark::Hot => asking::measure_hot(rt, table),
         Benchmark::Place => keys::measure_place(rt, table),
         Benchmark::Key => keys::measure_key(rt, table),
-        Benchmark::Keyed => keyed::measure_keyed(rt, table),
         Benchmark::Fill => filling::measure_fill(rt, table),
     }
 }

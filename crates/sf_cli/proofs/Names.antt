@@ -2,7 +2,7 @@
 use Rattle.std.proofs.Common.{◌≢◌, ℕ, List, [], Option, Some, None, IfNone, All, map, sym, arith}
 use Rattle.std.proofs.lemmas.List.Elements.{All-map}
 use Rattle.sf_cli.specs.declared.table.Row.{Row}
-use Rattle.sf_cli_engines.specs.declared.engine.Engine.TheVariants.{Run, Steps, Check, Merge}
+use Rattle.sf_cli_engines.specs.declared.engine.Engine.TheVariants.{Run, Steps, Check, CheckLogs, Merge}
 use Rattle.sf_cli.specs.declared.table.Work.{Work}
 use Rattle.sf_cli.specs.declared.table.Work.TheVariants.{Engine, Drive, Bench}
 use Rattle.sf_cli.specs.Work.{work_name_of, works}
@@ -12,6 +12,7 @@ pub unlike : (name : List ℕ) → All (λ n. n ≢ name) (map work_name_of work
 unlike name others (Engine (Run history)) = λ is. others 0 [] (omega arith) (sym is)
 unlike name others (Engine (Steps shown)) = λ is. others 1 [] (omega arith) (sym is)
 unlike name others (Engine (Check judged)) = λ is. others 2 [] (omega arith) (sym is)
+unlike name others (Engine (CheckLogs judged)) = λ is. others 2 [] (omega arith) (sym is)
 unlike name others (Engine Merge) = λ is. others 3 [] (omega arith) (sym is)
 unlike name others Drive = λ is. others 4 [] (omega arith) (sym is)
 unlike name others Bench = λ is. others 5 [] (omega arith) (sym is)

@@ -5,7 +5,7 @@ use Rattle.sf_cli_engines.specs.declared.engine.Engine.TheVariants as engine
 use Rattle.sf_cli_engines.specs.declared.engine.Judged.TheVariants as judged
 use Rattle.sf_cli_engines.specs.declared.engine.Shown.TheVariants as shown
 use Rattle.sf_cli_engines.specs.declared.engine.Form.{Form}
-use Rattle.sf_cli_engines.specs.declared.engine.Form.TheVariants.{Lines, History, Timed, Picture}
+use Rattle.sf_cli_engines.specs.declared.engine.Form.TheVariants.{Lines, History, Timed, Picture, All, TimedAll, Merged}
 use Rattle.sf_cli.specs.declared.table.Work.{Work}
 use Rattle.sf_cli.specs.declared.table.Work.TheVariants.{Engine, Drive, Bench}
 
@@ -24,3 +24,10 @@ options_of Lines = []
 options_of History = codes "--history" ∷ []
 options_of Timed = codes "--timed" ∷ []
 options_of Picture = codes "--svg" ∷ []
+options_of All = codes "--all" ∷ []
+options_of TimedAll = codes "--timed" ∷ codes "--all" ∷ []
+options_of (Merged judged.AsItStands) = codes "--merge" ∷ []
+options_of (Merged judged.InTime) = codes "--merge" ∷ codes "--timed" ∷ []
+options_of (Merged judged.Drawn) = codes "--merge" ∷ codes "--svg" ∷ []
+options_of (Merged judged.EachKey) = codes "--merge" ∷ codes "--all" ∷ []
+options_of (Merged judged.EachKeyInTime) = codes "--merge" ∷ codes "--timed" ∷ codes "--all" ∷ []

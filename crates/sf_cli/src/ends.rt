@@ -35,7 +35,7 @@ pub fn ended(rt: &impl Eprint, ended: Result<Ending, StreamFault>) -> u8
     }
 }
 
-/// The same of a drive's end.
+/// Says on standard error why a drive failed, if it did, and returns its exit status.
 pub fn driven(rt: &impl Eprint, driven: Result<DriveEnding, StreamFault>) -> u8
     ensures { result ≡ drive_exit_status_of driven }
 {
@@ -45,7 +45,7 @@ pub fn driven(rt: &impl Eprint, driven: Result<DriveEnding, StreamFault>) -> u8
     }
 }
 
-/// The same of help or the version: 0 where it was written.
+/// Says on standard error why help or the version was not written, if it was not, and returns the exit status: 0 where it was written.
 pub fn helped(rt: &impl Eprint, written: Result<(), StreamFault>) -> u8
     ensures { result ≡ help_exit_status_of written }
 {

@@ -37,7 +37,7 @@ fn words(rt: &(impl Env + AllocGlobal)) -> io::Result<Vec<String>> {
     Ok(words)
 }
 
-// Starts an engine on these streams, says a hint on standard error where it leaves one, and answers the exit status.
+// Starts an engine on these streams, says on standard error what it leaves to be said below its answer, and answers the exit status.
 fn answer<I: Read, O: Write>(
     rt: &(impl AllocGlobal + Eprint),
     engine: Engine,
@@ -49,10 +49,10 @@ fn answer<I: Read, O: Write>(
         (O.contents writer.new) ended
         × (result ≡ exit_status_of (outcome_of ended)) }
 {
-    let mut hinted = None;
-    let answered = engine.start_with_hint(rt.alloc(), reader, writer, &mut hinted);
-    if let Some(hint) = hinted {
-        let _ = eprintln!(rt; "{hint}");
+    let mut below = None;
+    let answered = engine.start_with_hint(rt.alloc(), reader, writer, &mut below);
+    if let Some(said) = below {
+        let _ = eprint!(rt; "{said}");
     }
     ended(rt, answered)
 }

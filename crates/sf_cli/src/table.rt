@@ -82,12 +82,17 @@ struct Flag {
     asked: Form,
 }
 
-// The options of engines: an engine takes those that name what it can show, and one of them at most.
-const FLAGS: [Flag; 3] = [
+// The options of engines: an engine takes those that name what it can show.
+const FLAGS: [Flag; 5] = [
     Flag {
         name: "history",
         help: "Prints records of what happened instead of replies",
         asked: Form::History,
+    },
+    Flag {
+        name: "merge",
+        help: "Merges the logs in standard input first",
+        asked: Form::Merged(Judged::AsItStands),
     },
     Flag {
         name: "timed",
@@ -99,13 +104,18 @@ const FLAGS: [Flag; 3] = [
         help: "Draws an SVG picture instead of lines",
         asked: Form::Picture,
     },
+    Flag {
+        name: "all",
+        help: "Says on standard error which keys have a fault",
+        asked: Form::All,
+    },
 ];
 
 // What the program is.
 const ABOUT: &str = "Runs, replays and checks calls of singleflight with Forget";
 
 // The version of the packages that are released with it (`rust/Cargo.toml`).
-const VERSION: &str = "0.1.0";
+const VERSION: &str = "0.2.0";
 
 // What stands at the end of the program's help.
 const STATUSES: &str = "Example:
@@ -146,8 +156,8 @@ const STEPS: &str = "Turns, one per line:
   step CALLER [COUNT]              makes COUNT atomic steps (1 to 1000), or one
   drop CALLER                      gives up after a failed exchange
 A PLACE is a hash slot. A CALLER or a PLACE is a number from 1 to 64. A CALL is
-CALLER.GENERATION, such as 1.1. A TEXT has 1 to 250 printable ASCII characters
-and no spaces.
+CALLER.GENERATION, such as 1.1; the CALLER of a CALL is 1 to 65535. A TEXT has 1
+to 250 printable ASCII characters and no spaces.
 
 Example:
   printf 'do 1 ask 1\\nstep 1 3\\n' | sfctl steps
@@ -171,6 +181,12 @@ incomplete, and is never called legal. Formats 1 and 2 are read too. They have
 no forgetcall, and a settle of format 1 has `shared`, true or false, instead of
 `joiners`.
 
+If the history is not legal, the events that explain it follow on standard
+error: their key, callers, times and records. With --all, every key that has a
+fault follows, with the first fault of each. With --merge, standard input is one
+log after another, which are merged first. `./sfctl check [OPTIONS] LOG...`
+reads logs from files, and names their lines.
+
 With --timed, the order of the lines does not matter. The program looks for an
 order that is legal and respects the times: an event that ended before another
 one began comes first. It prints `legal in time: N events`, `no order: ` with
@@ -178,6 +194,8 @@ the events that rule it out, or `not decided`.
 
 --svg does the same. If there is no order, it prints a picture instead of that
 line: a lane for each caller, a bar for each event, and time to the right.
+
+Options stand in this order: --merge, --timed or --svg, --all.
 
 Example:
   sfctl steps --history < schedule | sfctl check
@@ -237,11 +255,41 @@ fn flagged(option: &str) -> Option<Form>
         "--history" => Some(Form::History),
         "--timed" => Some(Form::Timed),
         "--svg" => Some(Form::Picture),
+        "--all" => Some(Form::All),
+        "--merge" => Some(Form::Merged(Judged::AsItStands)),
         _ => None,
     }
 }
 
-/// What an engine is asked to show by the words after its name: lines, or what the one option says.
+// What an engine is asked to show by these two options.
+fn flagged_twice(first: &str, second: &str) -> Option<Form>
+    ensures known { IfSome result (λ asked. first.now ∷ second.now ∷ [] ≡ options_of asked) }
+    ensures unknown { IfNone result ((asked : Form)
+        → first.now ∷ second.now ∷ [] ≢ options_of asked) }
+{
+    match (first, second) {
+        ("--timed", "--all") => Some(Form::TimedAll),
+        ("--merge", "--timed") => Some(Form::Merged(Judged::InTime)),
+        ("--merge", "--svg") => Some(Form::Merged(Judged::Drawn)),
+        ("--merge", "--all") => Some(Form::Merged(Judged::EachKey)),
+        _ => None,
+    }
+}
+
+// What an engine is asked to show by these three options.
+fn flagged_thrice(first: &str, second: &str, third: &str) -> Option<Form>
+    ensures known { IfSome result (λ asked.
+        first.now ∷ second.now ∷ third.now ∷ [] ≡ options_of asked) }
+    ensures unknown { IfNone result ((asked : Form)
+        → first.now ∷ second.now ∷ third.now ∷ [] ≢ options_of asked) }
+{
+    match (first, second, third) {
+        ("--merge", "--timed", "--all") => Some(Form::Merged(Judged::EachKeyInTime)),
+        _ => None,
+    }
+}
+
+/// What an engine is asked to show by the words after its name: lines, or what the options say.
 pub fn asked(options: &[String]) -> Option<Form>
     ensures known { IfSome result (λ asked. map string_bytes options.now ≡ options_of asked) }
     ensures unknown { IfNone result ((asked : Form)
@@ -250,6 +298,8 @@ pub fn asked(options: &[String]) -> Option<Form>
     match options {
         [] => Some(Form::Lines),
         [option] => flagged(option.as_str()),
+        [first, second] => flagged_twice(first.as_str(), second.as_str()),
+        [first, second, third] => flagged_thrice(first.as_str(), second.as_str(), third.as_str()),
         _ => None,
     }
 }
@@ -288,7 +338,7 @@ fn with_options<'a>(
     }
 }
 
-// The command with the options of what the engine can show, of which no two go together.
+// The command with the options of what the engine can show.
 fn with_flags<'a>(
     alloc: Global,
     engine: Engine,
@@ -303,13 +353,22 @@ fn with_flags<'a>(
     Ok(command)
 }
 
-// The option, which goes with no other.
+// Whether no engine takes both options.
+fn excludes(option: &str, other: &str) -> bool {
+    match option {
+        "svg" => other == "timed" || other == "all" || other == "history",
+        "timed" | "all" | "history" => other == "svg",
+        _ => false,
+    }
+}
+
+// The option, with those that do not go with it.
 fn option<'a>(alloc: Global, flag: Flag) -> Result<Arg<'a>, AllocError> {
     let (name, help): (&'a str, &'a str) = (flag.name, flag.help);
     let mut option = switch(alloc, name, help);
     for other in FLAGS {
         let other: &'a str = other.name;
-        if other != name {
+        if excludes(name, other) {
             option = option.conflicts_with(other)?;
         }
     }

@@ -62,7 +62,7 @@ impl fmt::Display for Mistake {
                 f.write_str("error: `bench` runs another program; use `./sfctl bench`\n")
             }
             Mistake::NotTaken => f.write_str(
-                "error: no subcommand takes these arguments; see `sfctl --help`\n",
+                "error: no subcommand takes these arguments in this order; see `sfctl --help`\n",
             ),
             Mistake::NoText => f.write_str("error: the arguments are not valid UTF-8\n"),
         }

@@ -21,11 +21,11 @@ use Rattle.sf_cli_engines.specs.declared.timing.TimedChecked.TheVariants as time
 use Rattle.sf_cli_engines.specs.declared.ending.Ending.{Ending}
 use Rattle.sf_cli_engines.specs.declared.ending.Ending.TheVariants.{Answered, Refused}
 use Rattle.sf_cli_engines.specs.declared.engine.Engine.{Engine}
-use Rattle.sf_cli_engines.specs.declared.engine.Engine.TheVariants.{Run, Steps, Check, Merge}
-use Rattle.sf_cli_engines.specs.declared.engine.Judged.TheVariants.{AsItStands, InTime, Drawn}
+use Rattle.sf_cli_engines.specs.declared.engine.Engine.TheVariants.{Run, Steps, Check, CheckLogs, Merge}
+use Rattle.sf_cli_engines.specs.declared.engine.Judged.TheVariants.{AsItStands, InTime, Drawn, EachKey, EachKeyInTime}
 use Rattle.sf_cli_engines.specs.declared.engine.Shown.TheVariants.{Lines, History, Picture}
 use Rattle.sf_cli_engines.specs.Merging.{IsMergeRefused}
-use Rattle.sf_cli_engines.specs.Engines.{IsAnswerOf, IsWrittenAs, IsScriptRefused, IsScheduleRefused}
+use Rattle.sf_cli_engines.specs.Engines.{IsAnswerOf, IsWrittenBy, IsWrittenAs, IsScriptRefused, IsScheduleRefused}
 
 -- a script's whole answer is what `sfctl run` writes
 pub run_part : (input : List ℕ) (old new : Option (List ℕ)) → (text : List ℕ) × IsAnswerText input text × AppendsPart old new text
@@ -37,22 +37,30 @@ run_part input old new part =
     ]
 
 -- want of memory is an answer to any input
-memory_answer : (engine : Engine) (input : List ℕ) → IsAnswerOf engine input (codes "out of memory" ++ codes "\n")
-memory_answer (Run false) input = (Refused, (script.OutOfMemory, tt, refl))
-memory_answer (Run true) input = (Refused, (script.OutOfMemory, tt, refl))
-memory_answer (Steps Lines) input = (Refused, (schedule.Memory, tt, refl))
-memory_answer (Steps History) input = (Refused, (schedule.Memory, tt, refl))
-memory_answer (Steps Picture) input = (Refused, (schedule.Memory, tt, refl))
-memory_answer (Check AsItStands) input = (Refused, (checked.OutOfMemory, tt, refl, refl))
-memory_answer (Check InTime) input = (Refused, (timed.OutOfMemory, tt, refl, refl))
-memory_answer (Check Drawn) input = (Refused, (timed.OutOfMemory, tt, refl, refl))
-memory_answer Merge input = (Refused, (records.Memory, tt, refl))
+memory_text : (engine : Engine) (input : List ℕ) → IsWrittenBy engine input Refused (codes "out of memory" ++ codes "\n")
+memory_text (Run false) input = (script.OutOfMemory, tt, refl)
+memory_text (Run true) input = (script.OutOfMemory, tt, refl)
+memory_text (Steps Lines) input = (schedule.Memory, tt, refl)
+memory_text (Steps History) input = (schedule.Memory, tt, refl)
+memory_text (Steps Picture) input = (schedule.Memory, tt, refl)
+memory_text (Check AsItStands) input = (checked.OutOfMemory, tt, refl, refl)
+memory_text (Check InTime) input = (timed.OutOfMemory, tt, refl, refl)
+memory_text (Check Drawn) input = (timed.OutOfMemory, tt, refl, refl)
+memory_text (Check EachKey) input = (checked.OutOfMemory, tt, refl, refl)
+memory_text (Check EachKeyInTime) input = (timed.OutOfMemory, tt, refl, refl)
+memory_text (CheckLogs judged) input = inr (refl, (records.Memory, tt, refl))
+memory_text Merge input = (records.Memory, tt, refl)
+
+pub memory_written : (known : Option (List ℕ)) (engine : Engine) (old new : Option (List ℕ))
+    → Appends old new (codes "out of memory" ++ codes "\n") → IfSome known (λ input. (text : List ℕ) × IsWrittenBy engine input Refused text × Appends old new text)
+memory_written None engine old new written = tt
+memory_written (Some input) engine old new written = (codes "out of memory" ++ codes "\n", memory_text engine input, written)
 
 pub memory_part : {A : Type 0} (r : Result A StreamFault) (fault : StreamFault) (known : Option (List ℕ)) (engine : Engine) (old new : Option (List ℕ))
     → AppendsPart old new (codes "out of memory" ++ codes "\n") → IfErr r (λ f. f ≡ fault → IfSome known (λ input. (text : List ℕ) × IsAnswerOf engine input text × AppendsPart old new text))
 memory_part (Ok a) fault known engine old new written = tt
 memory_part (Err e) fault None engine old new written = λ is. tt
-memory_part (Err e) fault (Some input) engine old new written = λ is. (codes "out of memory" ++ codes "\n", memory_answer engine input, written)
+memory_part (Err e) fault (Some input) engine old new written = λ is. (codes "out of memory" ++ codes "\n", (Refused, memory_text engine input), written)
 
 -- a script's refusal has its line, and so has a schedule's
 pub script_refused : {S : Type 0} (input : List ℕ) (answered : Result S ScriptRefusal) → IfErr answered (IsDue input)

@@ -2,3 +2,4 @@ mod Answered
 mod Recorded
 mod ReadTimes
 mod Drawings
+mod CheckedLogs

@@ -1,5 +1,5 @@
 -- the engines: their names, what each shows, and what each writes
-use Rattle.std.specs.Prelude.{◌≡◌, ◌++◌, ℕ, true, false, List, codes}
+use Rattle.std.specs.Prelude.{◌≡◌, ◌⊎◌, ◌++◌, ℕ, true, false, List, codes}
 use Rattle.std.specs.Str.Lines.{lines}
 use Rattle.sf_model.specs.declared.refusal.ScriptRefusal.{ScriptRefusal}
 use Rattle.sf_model.specs.RefusalText.{refusal_text}
@@ -18,10 +18,11 @@ use Rattle.sf_cli_engines.specs.Recording.{IsScriptRecords, IsScheduleRecords}
 use Rattle.sf_cli_engines.specs.declared.ending.Ending.{Ending}
 use Rattle.sf_cli_engines.specs.declared.ending.Ending.TheVariants.{Answered, Illegal, Incomplete, Refused}
 use Rattle.sf_cli_engines.specs.declared.engine.Engine.{Engine}
-use Rattle.sf_cli_engines.specs.declared.engine.Engine.TheVariants.{Run, Steps, Check, Merge}
+use Rattle.sf_cli_engines.specs.declared.engine.Engine.TheVariants.{Run, Steps, Check, CheckLogs, Merge}
 use Rattle.sf_cli_engines.specs.declared.engine.Form.{Form}
 use Rattle.sf_cli_engines.specs.declared.engine.Form.TheVariants as asked
-use Rattle.sf_cli_engines.specs.declared.engine.Judged.TheVariants.{AsItStands, InTime, Drawn}
+use Rattle.sf_cli_engines.specs.declared.engine.Judged.TheVariants.{AsItStands, InTime, Drawn, EachKey, EachKeyInTime}
+use Rattle.sf_cli_engines.specs.declared.engine.Judged.{Judged}
 use Rattle.sf_cli_engines.specs.declared.engine.Shown.TheVariants.{Lines, History, Picture}
 
 -- the name of its subcommand
@@ -29,6 +30,7 @@ abbrev pub name_of : Engine → List ℕ
 name_of (Run history) = codes "run"
 name_of (Steps shown) = codes "steps"
 name_of (Check judged) = codes "check"
+name_of (CheckLogs judged) = codes "check"
 name_of Merge = codes "merge"
 
 abbrev pub shown_by : Engine → Form
@@ -40,6 +42,9 @@ shown_by (Steps Picture) = asked.Picture
 shown_by (Check AsItStands) = asked.Lines
 shown_by (Check InTime) = asked.Timed
 shown_by (Check Drawn) = asked.Picture
+shown_by (Check EachKey) = asked.All
+shown_by (Check EachKeyInTime) = asked.TimedAll
+shown_by (CheckLogs judged) = asked.Merged judged
 shown_by Merge = asked.Lines
 
 -- what is written of a script when it is refused: the one line that says why
@@ -73,6 +78,20 @@ abbrev pub IsWrittenByDrawnCheck : List ℕ → Ending → List ℕ → Type 0
 IsWrittenByDrawnCheck input ending text = (checked : TimedChecked) × IsTimedCheckOf input checked
     × (ending ≡ timed_ending_of checked) × IsShownAs checked text
 
+-- the same by how the records are judged; which keys have a fault is said elsewhere
+abbrev pub IsCheckedAs : Judged → List ℕ → Ending → List ℕ → Type 0
+IsCheckedAs AsItStands input = IsWrittenByCheck input
+IsCheckedAs InTime input = IsWrittenByTimedCheck input
+IsCheckedAs Drawn input = IsWrittenByDrawnCheck input
+IsCheckedAs EachKey input = IsWrittenByCheck input
+IsCheckedAs EachKeyInTime input = IsWrittenByTimedCheck input
+
+-- the same of logs: of the recording that they are merged into, or the line that refuses them
+abbrev pub IsLogsCheckedAs : Judged → List ℕ → Ending → List ℕ → Type 0
+IsLogsCheckedAs judged input ending text =
+    ((merged : List ℕ) × IsMergedText input merged × IsCheckedAs judged merged ending text)
+    ⊎ ((ending ≡ Refused) × IsMergeRefused input text)
+
 -- the same of an engine
 abbrev pub IsWrittenBy : Engine → List ℕ → Ending → List ℕ → Type 0
 IsWrittenBy (Run false) input = IsWrittenAs (IsReplyText input) (IsScriptRefused input)
@@ -80,9 +99,8 @@ IsWrittenBy (Run true) input = IsWrittenAs (IsScriptRecords input) (IsScriptRefu
 IsWrittenBy (Steps Lines) input = IsWrittenAs (IsTraceText input) (IsScheduleRefused input)
 IsWrittenBy (Steps History) input = IsWrittenAs (IsScheduleRecords input) (IsScheduleRefused input)
 IsWrittenBy (Steps Picture) input = IsWrittenAs (λ text. HasPicture input) (IsScheduleRefused input)
-IsWrittenBy (Check AsItStands) input = IsWrittenByCheck input
-IsWrittenBy (Check InTime) input = IsWrittenByTimedCheck input
-IsWrittenBy (Check Drawn) input = IsWrittenByDrawnCheck input
+IsWrittenBy (Check judged) input = IsCheckedAs judged input
+IsWrittenBy (CheckLogs judged) input = IsLogsCheckedAs judged input
 IsWrittenBy Merge input = IsWrittenAs (IsMergedText input) (IsMergeRefused input)
 
 -- what an engine writes of an input, however it ends

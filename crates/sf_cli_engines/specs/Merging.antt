@@ -1,5 +1,5 @@
 -- what `sfctl merge` answers
-use Rattle.std.specs.Prelude.{◌≡◌, ℕ, List, ◌++◌, Option, Ok, codes, zip, IsPermutation, IsSortedByKey}
+use Rattle.std.specs.Prelude.{◌≡◌, ℕ, List, ◌++◌, Option, Ok, codes, length, zip, IsPermutation, IsSortedByKey}
 use Rattle.std.specs.Cmp.Lexicographic.{slice_cmp}
 use Rattle.std.specs.Ordering.{nat_cmp}
 use Rattle.sf_replay.specs.declared.reading.RecordRefusal.{RecordRefusal}
@@ -13,6 +13,7 @@ use Rattle.sf_replay.specs.Written.{recording_text}
 -- the events of logs in the order of merged histories: each once, with its time
 pub record IsMergeOf (read : Read) (events : List TextEvent) (times : List (Option Interval)) : Type 0 where
   pub once : IsPermutation (zip read.events read.times) (zip events times)
+  pub even : length events ≡ length times
   pub sorted : IsSortedByKey (standing_of (slice_cmp nat_cmp) read.events) standing_cmp events
 
 -- the recording that the logs of a text are merged into

@@ -1,14 +1,14 @@
 //! The engines by their names.
 
-ghost use Rattle.std.specs.Prelude.{◌≡◌, ◌≢◌, List, ℕ, IfOk, IfErr, IfSome, None};
+ghost use Rattle.std.specs.Prelude.{◌≡◌, ◌≢◌, List, ℕ, IfOk, IfErr, IfSome, None, codes};
 ghost use Rattle.std.specs.Io.KnownBytes.{Appends};
 ghost use Rattle.sf_text.specs.StreamText.{AppendsPart};
 ghost use Rattle.sf_cli_engines.specs.Engines.{IsWrittenBy, IsAnswerOf, name_of, shown_by};
 
 use crate::checking::Checked;
 use crate::ending::Ending;
-use crate::engines::{check, check_in_time, draw_in_time, run, write_answer};
-use crate::hints::{Hint, hint_for};
+use crate::engines::{check_as, check_logs, run, write_answer};
+use crate::hints::{Said, said_below};
 use crate::merging::merged;
 use crate::playing::{drawn, traced};
 use crate::recording::{schedule_records, script_records};
@@ -27,6 +27,12 @@ pub enum Form {
     Timed,
     /// A picture.
     Picture,
+    /// Lines of its own, and below them the keys with a fault.
+    All,
+    /// What can be said by the times of events, and below it the keys with a fault.
+    TimedAll,
+    /// How logs are judged that are merged first.
+    Merged(Judged),
 }
 
 /// What a schedule shows of what it does.
@@ -49,6 +55,10 @@ pub enum Judged {
     InTime,
     /// By the times of its events, and the events that have no order are drawn.
     Drawn,
+    /// By the order that its events stand in, and then each key is judged by itself.
+    EachKey,
+    /// By the times of its events, and then each key is judged by itself.
+    EachKeyInTime,
 }
 
 /// An engine of `sfctl`, and what it shows.
@@ -63,6 +73,8 @@ pub enum Engine {
     Steps(Shown),
     /// Says whether a recorded history is legal, judged so.
     Check(Judged),
+    /// Says the same of logs that stand one after another, and are merged.
+    CheckLogs(Judged),
     /// Merges logs that stand one after another into one recording.
     Merge,
 }
@@ -75,7 +87,7 @@ impl Engine {
         match self {
             Engine::Run { .. } => "run",
             Engine::Steps(_) => "steps",
-            Engine::Check(_) => "check",
+            Engine::Check(_) | Engine::CheckLogs(_) => "check",
             Engine::Merge => "merge",
         }
     }
@@ -93,9 +105,7 @@ impl Engine {
             (Engine::Steps(_), Form::Lines) => Some(Engine::Steps(Shown::Lines)),
             (Engine::Steps(_), Form::History) => Some(Engine::Steps(Shown::History)),
             (Engine::Steps(_), Form::Picture) => Some(Engine::Steps(Shown::Picture)),
-            (Engine::Check(_), Form::Lines) => Some(Engine::Check(Judged::AsItStands)),
-            (Engine::Check(_), Form::Timed) => Some(Engine::Check(Judged::InTime)),
-            (Engine::Check(_), Form::Picture) => Some(Engine::Check(Judged::Drawn)),
+            (Engine::Check(_) | Engine::CheckLogs(_), asked) => checking(asked),
             (Engine::Merge, Form::Lines) => Some(Engine::Merge),
             _ => None,
         }
@@ -122,13 +132,14 @@ impl Engine {
         Ok(ending)
     }
 
-    /// Starts it as `start` does, and leaves a hint where the input is refused and there is one.
+    /// Starts it as `start` does, and leaves what is said below the answer: a hint where the input is refused, or what explains a
+    /// verdict.
     pub fn start_with_hint<R: Read, W: Write>(
         self,
         alloc: Global,
         reader: &mut R,
         writer: &mut W,
-        hinted: &mut Option<Hint>,
+        said: &mut Option<Said>,
     ) -> Result<Ending, StreamFault>
         ensures written { IfOk result (λ ending. IfSome (R.remaining reader.old) (λ input.
             (text : List ℕ) × IsWrittenBy self input ending text
@@ -141,8 +152,8 @@ impl Engine {
             × AppendsPart (W.contents writer.old) (W.contents writer.new) text)) }
     {
         let (ending, input) = self.answer_reader(alloc, reader, writer)?;
-        if let (Ending::Refused, Some(input)) = (ending, input) {
-            *hinted = hint_for(alloc, self, input.as_slice());
+        if let Some(input) = input {
+            *said = said_below(alloc, self, ending, input.as_slice());
         }
         Ok(ending)
     }
@@ -199,12 +210,27 @@ impl Engine {
                 Shown::History => write_answer(writer, schedule_records(alloc, input)),
                 Shown::Picture => write_answer(writer, drawn(alloc, input)),
             },
-            Engine::Check(judged) => match judged {
-                Judged::AsItStands => check(alloc, input, writer),
-                Judged::InTime => check_in_time(alloc, input, writer),
-                Judged::Drawn => draw_in_time(alloc, input, writer),
-            },
+            Engine::Check(judged) => check_as(alloc, judged, input, writer),
+            Engine::CheckLogs(judged) => check_logs(alloc, judged, input, writer),
             Engine::Merge => write_answer(writer, merged(alloc, input)),
         }
+    }
+}
+
+// The engine of `sfctl check` that shows this, if there is one.
+fn checking(asked: Form) -> Option<Engine>
+    ensures found { IfSome result (λ engine. (name_of engine ≡ codes "check")
+        × (shown_by engine ≡ asked)) }
+    ensures none { result ≡ None → (engine : Engine) → name_of engine ≡ codes "check"
+        → shown_by engine ≢ asked }
+{
+    match asked {
+        Form::Lines => Some(Engine::Check(Judged::AsItStands)),
+        Form::Timed => Some(Engine::Check(Judged::InTime)),
+        Form::Picture => Some(Engine::Check(Judged::Drawn)),
+        Form::All => Some(Engine::Check(Judged::EachKey)),
+        Form::TimedAll => Some(Engine::Check(Judged::EachKeyInTime)),
+        Form::Merged(judged) => Some(Engine::CheckLogs(judged)),
+        Form::History => None,
     }
 }

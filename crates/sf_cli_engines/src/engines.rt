@@ -4,12 +4,14 @@ ghost use Rattle.std.specs.Prelude.{◌≡◌, ◌++◌, List, ℕ, IfOk, IfErr,
 ghost use Rattle.std.specs.Prelude.{string_bytes};
 ghost use Rattle.std.specs.Io.KnownBytes.{Appends};
 ghost use Rattle.sf_text.specs.StreamText.{AppendsPart};
-ghost use Rattle.sf_cli_engines.specs.Engines.{IsWrittenBy, IsAnswerOf};
+ghost use Rattle.sf_cli_engines.specs.Engines.{IsWrittenBy, IsAnswerOf, IsCheckedAs, IsLogsCheckedAs};
+ghost use Rattle.sf_cli_engines.specs.declared.ending.Ending as endings;
 
 use crate::checking::{ending, judge};
 use crate::drawing::{Drawn, draw_times};
 use crate::ending::Ending;
 use crate::engine::{Engine, Judged};
+use crate::merging::merged;
 use crate::timing::{ending_in_time, judge_times};
 use sf_model::run_script;
 use sf_text::{StreamFault, write_all, write_line};
@@ -121,6 +123,54 @@ pub(crate) fn draw_in_time<W: Write>(
         Drawn::Line(checked) => {
             write_line(writer, checked)?;
             Ok(ending_in_time(checked))
+        }
+    }
+}
+
+/// `sfctl check`, judging records so: writes its one line, or a picture.
+pub(crate) fn check_as<W: Write>(
+    alloc: Global,
+    judged: Judged,
+    input: &[u8],
+    writer: &mut W,
+) -> Result<Ending, StreamFault>
+    ensures written { IfOk result (λ ending.
+        (text : List ℕ) × IsCheckedAs judged input.now ending text
+        × Appends (W.contents writer.old) (W.contents writer.new) text) }
+    ensures err { IfErr result (λ fault. fault ≡ StreamFault.CannotWrite) }
+    ensures part { (text : List ℕ)
+        × ((ending : endings.Ending) × IsCheckedAs judged input.now ending text)
+        × AppendsPart (W.contents writer.old) (W.contents writer.new) text }
+{
+    match judged {
+        Judged::AsItStands => check(alloc, input, writer),
+        Judged::InTime => check_in_time(alloc, input, writer),
+        Judged::Drawn => draw_in_time(alloc, input, writer),
+        Judged::EachKey => check(alloc, input, writer),
+        Judged::EachKeyInTime => check_in_time(alloc, input, writer),
+    }
+}
+
+/// `sfctl check --merge`: merges logs, and judges the recording that `sfctl merge` would write; or writes the one line of their refusal.
+pub(crate) fn check_logs<W: Write>(
+    alloc: Global,
+    judged: Judged,
+    input: &[u8],
+    writer: &mut W,
+) -> Result<Ending, StreamFault>
+    ensures written { IfOk result (λ ending.
+        (text : List ℕ) × IsLogsCheckedAs judged input.now ending text
+        × Appends (W.contents writer.old) (W.contents writer.new) text) }
+    ensures err { IfErr result (λ fault. fault ≡ StreamFault.CannotWrite) }
+    ensures part { (text : List ℕ)
+        × ((ending : endings.Ending) × IsLogsCheckedAs judged input.now ending text)
+        × AppendsPart (W.contents writer.old) (W.contents writer.new) text }
+{
+    match merged(alloc, input) {
+        Ok(text) => check_as(alloc, judged, text.as_bytes(), writer),
+        Err(refusal) => {
+            write_line(writer, refusal)?;
+            Ok(Ending::Refused)
         }
     }
 }

@@ -1,7 +1,10 @@
-//! What helps with a line that is refused. No clause says it.
+//! What is said below an answer, on standard error: what helps with a line that is refused, and what explains a verdict. No clause
+//! says it.
 
-use crate::engine::Engine;
+use crate::ending::Ending;
+use crate::engine::{Engine, Judged};
 use crate::record_hints::{log_hint, record_hint};
+use crate::telling::{told_of_log, told_of_logs};
 use crate::turn_hints::turn_hint;
 use sf_model::{ScriptRefusal, run_script};
 use sf_text::lines;
@@ -23,13 +26,53 @@ impl fmt::Display for Hint {
     }
 }
 
+/// What is said below an answer: whole lines.
+#[derive(Drop)]
+pub enum Said {
+    /// More about a line that is refused.
+    Hint(Hint),
+    /// What explains a verdict.
+    Lines(String),
+}
+
+impl fmt::Display for Said {
+    fn fmt<W: fmt::Write>(&self, f: &mut fmt::Formatter<W>) -> fmt::Result {
+        match self {
+            Said::Hint(hint) => writeln!(f, "{hint}"),
+            Said::Lines(lines) => f.write_str(lines.as_str()),
+        }
+    }
+}
+
+/// What is said below the answer of an engine that ended so.
+pub fn said_below(alloc: Global, engine: Engine, ending: Ending, input: &[u8]) -> Option<Said> {
+    match (ending, engine) {
+        (Ending::Refused, _) => Some(Said::Hint(hint_for(alloc, engine, input)?)),
+        (_, Engine::Check(judged)) if is_told(ending, judged) => {
+            Some(Said::Lines(told_of_log(alloc, judged, input)?))
+        }
+        (_, Engine::CheckLogs(judged)) if is_told(ending, judged) => {
+            Some(Said::Lines(told_of_logs(alloc, judged, input)?))
+        }
+        _ => None,
+    }
+}
+
+// Whether a verdict is explained: one that is not good, and that on each key in any case.
+fn is_told(ending: Ending, judged: Judged) -> bool {
+    match judged {
+        Judged::EachKey | Judged::EachKeyInTime => true,
+        _ => ending == Ending::Illegal || ending == Ending::Incomplete,
+    }
+}
+
 /// More about the line for which an engine refuses an input; none where no line's form is the cause, or memory is refused.
 pub fn hint_for(alloc: Global, engine: Engine, input: &[u8]) -> Option<Hint> {
     match engine {
         Engine::Run { .. } => command_hint(alloc, input),
         Engine::Steps(_) => turn_hint(alloc, input),
         Engine::Check(_) => record_hint(alloc, input),
-        Engine::Merge => log_hint(alloc, input),
+        Engine::CheckLogs(_) | Engine::Merge => log_hint(alloc, input),
     }
 }
 

@@ -10,7 +10,25 @@ pub(crate) fn record_hint(alloc: Global, input: &[u8]) -> Option<Hint> {
     let Err(RecordRefusal::BadRecord(line)) = read(alloc, input) else {
         return None;
     };
+    if line > 1 && names_format(alloc, line_of(input, line)) {
+        return Some(Hint {
+            line,
+            says: ANOTHER_LOG,
+        });
+    }
     line_hint(alloc, input, line, format_of(alloc, input))
+}
+
+// What is said of a line that names a format behind the first one. A recorder writes such a line where it loses events.
+const ANOTHER_LOG: &str =
+    "another log begins here, and `check` reads one; `sfctl merge < LOG | sfctl check` merges them first, and so does `sfctl check --merge < LOG`";
+
+// Whether a line is an object that names a format.
+fn names_format(alloc: Global, line: &[u8]) -> bool {
+    match Value::from_slice(alloc, line) {
+        Ok(value) => value.get("format").is_some(),
+        Err(_) => false,
+    }
 }
 
 /// More about the first line of logs that is no record.
@@ -23,7 +41,7 @@ pub(crate) fn log_hint(alloc: Global, input: &[u8]) -> Option<Hint> {
 
 // More about a line that is no record, after a first line of this format.
 fn line_hint(alloc: Global, input: &[u8], line: u64, format: u64) -> Option<Hint> {
-    if line == 1 {
+    if line == 1 || names_format(alloc, line_of(input, line)) {
         return Some(Hint {
             line,
             says: "expected {\"format\":4,\"lost\":N}, {\"format\":3}, {\"format\":2} or {\"format\":1}",

@@ -207,14 +207,14 @@ impl<'d, D: Naming, N: Naming, O: Origin, L> Getter<'d, D, N, O, L> {
     }
 }
 
-/// Who learns the note of a getter that reloaded a key gets nothing of the key's place from before: no letter of the call
+/// A getter that learns the note of one that reloaded a key gets nothing of the key's place from before: no letter of the call
 /// that was current when the reload began, and, where that closed or cleared its call, no bytes that were loaded before its
 /// Forget. This function has no code, and its contract is the law.
 pub fn notes_carry_reloads<L, M>()
     ensures { NotesCarryReloads L M }
 {}
 
-/// Who learns the note of a getter that forgot all places gets nothing from before: no letter of a call that was current when
+/// A getter that learns the note of one that forgot all places gets nothing from before: no letter of a call that was current when
 /// that began, and no bytes that were loaded before a Forget of their place that the note shows. This function has no code,
 /// and its contract is the law.
 pub fn notes_carry_purges<L, M>()

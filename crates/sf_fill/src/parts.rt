@@ -28,7 +28,7 @@ use std::alloc::Global;
 pub struct FillParts<'d, D: Naming, O: Origin, L> {
     /// Look keys up, one a getter.
     pub desks: Vec<KeyDesk>,
-    /// Whose letters are kept.
+    /// The group whose letters are kept.
     pub group: Group<FillValue<'d, D, O>>,
     /// Ask the group, one a getter.
     pub callers: Vec<Caller<FillValue<'d, D, O>>>,

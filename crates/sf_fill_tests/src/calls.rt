@@ -3,13 +3,9 @@
 use crate::trial::trials;
 use std::test::Fail;
 
-// The put forgets what was loaded; the next get answers what was put, from the cache. The only key has the only place.
-#[test]
-fn put_is_got(rt: HostRuntime) -> Result<(), Fail> {
-    trials(
-        &rt,
-        rt.alloc(),
-        "\
+const TRIALS: &str = "\
+trial put_is_got
+# The put forgets what was loaded; the next get answers what was put, from the cache. The only key has the only place.
 places 1
 1 get a
 1 put a
@@ -20,16 +16,9 @@ places 1
 1 put a settled 1.2 of 1 w=true
 1 a v=false 1.2 root=1.2 joiners=0
 2 a v=false 1.2 root=1.2 joiners=0
-counted 4 2 2 2 0 0 2 0",
-    )
-}
+counted 4 2 2 2 0 0 2 0
 
-#[test]
-fn removed_key_is_loaded_again(rt: HostRuntime) -> Result<(), Fail> {
-    trials(
-        &rt,
-        rt.alloc(),
-        "\
+trial removed_key_is_loaded_again
 1 get a
 1 get b
 1 stats
@@ -46,16 +35,9 @@ fn removed_key_is_loaded_again(rt: HostRuntime) -> Result<(), Fail> {
 1 a v=true 1.3 root=1.3 joiners=0
 1 b v=true 1.2 root=1.2 joiners=0
 1 remove abcde false
-counted 4 1 3 3 0 0 3 0",
-    )
-}
+counted 4 1 3 3 0 0 3 0
 
-#[test]
-fn all_is_forgotten(rt: HostRuntime) -> Result<(), Fail> {
-    trials(
-        &rt,
-        rt.alloc(),
-        "\
+trial all_is_forgotten
 1 get a
 1 get b
 1 forget-all
@@ -70,11 +52,10 @@ fn all_is_forgotten(rt: HostRuntime) -> Result<(), Fail> {
 1 hot 0 bytes, 0 items, 0 evictions
 1 a v=true 1.3 root=1.3 joiners=0
 1 b v=true 1.4 root=1.4 joiners=0
-counted 4 0 4 4 0 0 4 0",
-    )
-}
+counted 4 0 4 4 0 0 4 0
 
-const DROPPED: &str = "\
+trial near_letter_answers_what_was_dropped
+# Main has room for one key, so the second one takes the first out of it. Its letter is near by then, and answers.
 limit 2
 near 8
 1 get a
@@ -104,21 +85,10 @@ limit 2
 1 main 2 bytes, 1 items, 1 evictions
 1 hot 0 bytes, 0 items, 0 evictions
 1 a v=true 1.3 root=1.3 joiners=0
-counted 4 1 3 3 0 0 3 0";
+counted 4 1 3 3 0 0 3 0
 
-// Main has room for one key, so the second one takes the first out of it. Its letter is near by then, and answers.
-#[test]
-fn near_letter_answers_what_was_dropped(rt: HostRuntime) -> Result<(), Fail> {
-    trials(&rt, rt.alloc(), DROPPED)
-}
-
-// After 63 hits of a near letter the caches are asked, which have dropped it by then.
-#[test]
-fn near_letter_goes_the_long_way(rt: HostRuntime) -> Result<(), Fail> {
-    trials(
-        &rt,
-        rt.alloc(),
-        "\
+trial near_letter_goes_the_long_way
+# After 63 hits of a near letter the caches are asked, which have dropped it by then.
 limit 2
 near 8
 1 repeat 1 a
@@ -126,11 +96,10 @@ near 8
 1 repeat 1 b
 1 repeat 64 a
 =
-counted 67 64 3 3 0 0 3 0",
-    )
-}
+counted 67 64 3 3 0 0 3 0
 
-const TWO_SLOTS: &str = "\
+trial near_letters_have_two_slots
+# Of three places two have odd numbers, or two have even ones: letters of these would share a slot, if each had but one.
 places 4
 limit 2
 near 2
@@ -171,15 +140,11 @@ near 2
 1 repeat 1 c
 1 repeat 1 b
 =
-counted 8 3 5 5 0 0 5 0";
+counted 8 3 5 5 0 0 5 0
 
-// Of three places two have odd numbers, or two have even ones: letters of these would share a slot, if each had but one.
-#[test]
-fn near_letters_have_two_slots(rt: HostRuntime) -> Result<(), Fail> {
-    trials(&rt, rt.alloc(), TWO_SLOTS)
-}
-
-const ANSWERED_OFTEN: &str = "\
+trial near_letter_answered_often_stays
+# Of two letters near a third one takes the place of the one that was answered less often; and one that was answered stays, until
+# others have asked for its slot as often.
 places 4
 limit 2
 near 2
@@ -231,21 +196,9 @@ near 1
 1 repeat 1 c
 1 repeat 1 b
 =
-counted 10 7 3 3 0 0 3 0";
+counted 10 7 3 3 0 0 3 0
 
-// Of two letters near a third one takes the place of the one that was answered less often; and one that was answered stays, until
-// others have asked for its slot as often.
-#[test]
-fn near_letter_answered_often_stays(rt: HostRuntime) -> Result<(), Fail> {
-    trials(&rt, rt.alloc(), ANSWERED_OFTEN)
-}
-
-#[test]
-fn reload_and_forget_all_reach_near_letters(rt: HostRuntime) -> Result<(), Fail> {
-    trials(
-        &rt,
-        rt.alloc(),
-        "\
+trial reload_and_forget_all_reach_near_letters
 near 8
 1 get a
 1 get a
@@ -264,11 +217,10 @@ near 8
 1 forget all true
 1 a v=true 1.3 root=1.3 joiners=0
 1 remove a true
-counted 5 2 3 3 0 0 3 0",
-    )
-}
+counted 5 2 3 3 0 0 3 0
 
-const PRESENT: &str = "\
+trial only_what_is_present_is_answered
+# Only a letter at hand is answered in bytes, from a cache or from those near, and nothing is counted but that hit.
 1 get-bytes a
 1 get a
 1 get-bytes a
@@ -298,21 +250,10 @@ near 4
 1 reload a cleared 1.1
 1 a no bytes
 1 abcde no bytes
-counted 2 1 1 1 0 0 1 0";
+counted 2 1 1 1 0 0 1 0
 
-// Only a letter at hand is answered in bytes, from a cache or from those near, and nothing is counted but that hit.
-#[test]
-fn only_what_is_present_is_answered(rt: HostRuntime) -> Result<(), Fail> {
-    trials(&rt, rt.alloc(), PRESENT)
-}
-
-// The two keys share the only place, so what is answered has its own key. A directory's place is of one key.
-#[test]
-fn views_have_their_keys(rt: HostRuntime) -> Result<(), Fail> {
-    trials(
-        &rt,
-        rt.alloc(),
-        "\
+trial views_have_their_keys
+# The two keys share the only place, so what is answered has its own key. A directory's place is of one key.
 places 1
 keys hashed
 1 get-key a
@@ -332,8 +273,11 @@ places 2
 1 a by its place
 1 b by its place
 1 b by its place
-counted 3 1 2 2 0 0 2 0",
-    )
+counted 3 1 2 2 0 0 2 0";
+
+#[test]
+fn calls_beside_gets(rt: HostRuntime) -> Result<(), Fail> {
+    trials(&rt, rt.alloc(), TRIALS)
 }
 
 // A key of 250 bytes.

@@ -3,8 +3,9 @@
 use crate::trial::trials;
 use std::test::Fail;
 
-// A key of 251 bytes, which is one too long, and the same in an answer.
-const ONE_PLACE: &str = "\
+const TRIALS: &str = "\
+trial one_place_and_a_key_too_long
+# A key of 251 bytes, which is one too long, and the same in an answer.
 places 1
 longest 250
 1 get a
@@ -16,14 +17,9 @@ longest 250
 1 b directory full
 1 LONG key too long
 1 a v=true 1.1 root=1.1 joiners=0
-counted 4 1 1 1 0 0 1 0";
+counted 4 1 1 1 0 0 1 0
 
-#[test]
-fn one_place_and_a_key_too_long(rt: HostRuntime) -> Result<(), Fail> {
-    trials(&rt, rt.alloc(), ONE_PLACE)
-}
-
-const LAST_GENERATION: &str = "\
+trial last_generation_of_a_getter
 first 4294967295
 limit 0
 1 get a
@@ -31,14 +27,10 @@ limit 0
 =
 1 a v=true 1.4294967295 root=1.4294967295 joiners=0
 1 a spent
-counted 2 0 2 1 0 0 1 0";
+counted 2 0 2 1 0 0 1 0
 
-#[test]
-fn last_generation_of_a_getter(rt: HostRuntime) -> Result<(), Fail> {
-    trials(&rt, rt.alloc(), LAST_GENERATION)
-}
-
-const PEER_FAILS: &str = "\
+trial peer_fails_its_nth_fetch
+# The local getter is asked in place of the peer.
 peer fault 1
 1 get a
 1 get b
@@ -85,15 +77,9 @@ peer fault 4
 1 b v=false 1.2 root=1.2 joiners=0
 1 c v=false 1.3 root=1.3 joiners=0
 1 d v=true 1.4 root=1.4 joiners=0
-counted 4 0 4 4 3 1 1 0";
+counted 4 0 4 4 3 1 1 0
 
-// The local getter is asked in place of the peer.
-#[test]
-fn peer_fails_its_nth_fetch(rt: HostRuntime) -> Result<(), Fail> {
-    trials(&rt, rt.alloc(), PEER_FAILS)
-}
-
-const LOCAL_FAILS: &str = "\
+trial local_getter_fails_its_nth_load
 local fault 1
 1 get a
 1 get b
@@ -140,14 +126,10 @@ local fault 4
 1 b v=true 1.2 root=1.2 joiners=0
 1 c v=true 1.3 root=1.3 joiners=0
 1 d down
-counted 4 0 4 4 0 0 3 1";
+counted 4 0 4 4 0 0 3 1
 
-#[test]
-fn local_getter_fails_its_nth_load(rt: HostRuntime) -> Result<(), Fail> {
-    trials(&rt, rt.alloc(), LOCAL_FAILS)
-}
-
-const BOTH_FAIL: &str = "\
+trial both_fail
+# The peer's fault is followed by the local getter's, which is the answer.
 peer fault 3
 local fault 1
 1 get a
@@ -161,8 +143,7 @@ local fault 1
 1 d v=false 1.4 root=1.4 joiners=0
 counted 4 0 4 4 3 1 0 1";
 
-// The peer's fault is followed by the local getter's, which is the answer.
 #[test]
-fn both_fail(rt: HostRuntime) -> Result<(), Fail> {
-    trials(&rt, rt.alloc(), BOTH_FAIL)
+fn refused_and_failing_gets(rt: HostRuntime) -> Result<(), Fail> {
+    trials(&rt, rt.alloc(), TRIALS)
 }

@@ -3,7 +3,15 @@
 use crate::trial::trials;
 use std::test::Fail;
 
-const LIMITS: &str = "\
+const TRIALS: &str = "\
+trial caches_keep_within_their_limit
+# A key and a value of one byte each weigh 2.
+# - One entry serves many gets.
+# - There is room for two keys, and the third takes the first one's.
+# - A hit makes `a` the most recent, so `b` leaves.
+# - A reload takes its own key out, and no other.
+# - The draws are 0 to 9 in turn. Just those of 0 put a peer's value into hot: the first, and the eleventh.
+# - A limit of nothing, and one below it.
 1 repeat 3 a
 1 stats
 =
@@ -72,22 +80,10 @@ limit -1
 =
 1 main 0 bytes, 0 items, 0 evictions
 1 hot 0 bytes, 0 items, 0 evictions
-counted 2 0 2 2 0 0 2 0";
+counted 2 0 2 2 0 0 2 0
 
-// A key and a value of one byte each weigh 2.
-//
-// - One entry serves many gets.
-// - There is room for two keys, and the third takes the first one's.
-// - A hit makes `a` the most recent, so `b` leaves.
-// - A reload takes its own key out, and no other.
-// - The draws are 0 to 9 in turn. Just those of 0 put a peer's value into hot: the first, and the eleventh.
-// - A limit of nothing, and one below it.
-#[test]
-fn caches_keep_within_their_limit(rt: HostRuntime) -> Result<(), Fail> {
-    trials(&rt, rt.alloc(), LIMITS)
-}
-
-const WEIGHTS: &str = "\
+trial keys_weigh_their_bytes
+# An entry weighs its key's bytes and its value's, which has one: in main, after a put, and in hot.
 longest 8
 limit 9
 1 repeat 1 aaa
@@ -120,15 +116,10 @@ peer value
 =
 1 main 0 bytes, 0 items, 0 evictions
 1 hot 4 bytes, 1 items, 0 evictions
-counted 2 1 1 1 1 0 0 0";
+counted 2 1 1 1 1 0 0 0
 
-// An entry weighs its key's bytes and its value's, which has one: in main, after a put, and in hot.
-#[test]
-fn keys_weigh_their_bytes(rt: HostRuntime) -> Result<(), Fail> {
-    trials(&rt, rt.alloc(), WEIGHTS)
-}
-
-const HOT_ALONE: &str = "\
+trial entry_in_hot_alone_leaves
+# The only entry is in hot. It leaves at a remove, a reload and a `forget_all`, and stays where another key of its place is removed.
 peer value
 1 repeat 2 a
 1 remove a
@@ -173,15 +164,10 @@ peer value
 1 remove b true
 1 main 0 bytes, 0 items, 0 evictions
 1 hot 2 bytes, 1 items, 0 evictions
-counted 3 2 1 1 1 0 0 0";
+counted 3 2 1 1 1 0 0 0
 
-// The only entry is in hot. It leaves at a remove, a reload and a `forget_all`, and stays where another key of its place is removed.
-#[test]
-fn entry_in_hot_alone_leaves(rt: HostRuntime) -> Result<(), Fail> {
-    trials(&rt, rt.alloc(), HOT_ALONE)
-}
-
-const LARGE: &str = "\
+trial large_value_is_kept
+# A value of 70,000 bytes is kept in main, in hot and near the getter, if there is just room for it.
 limit 70001
 local large
 1 repeat 2 a
@@ -208,16 +194,10 @@ near-bytes 70001
 1 repeat 1 b
 1 repeat 1 a
 =
-counted 4 2 2 2 0 0 2 0";
+counted 4 2 2 2 0 0 2 0
 
-// A value of 70,000 bytes is kept in main, in hot and near the getter, if there is just room for it.
-#[test]
-fn large_value_is_kept(rt: HostRuntime) -> Result<(), Fail> {
-    trials(&rt, rt.alloc(), LARGE)
-}
-
-// A key's place is its SipHash-1-3 by the seed, scaled down, where no other key is there.
-const SEEDS: &str = "\
+trial keys_have_their_places_by_the_seed
+# A key's place is its SipHash-1-3 by the seed, scaled down, where no other key is there.
 places 65536
 seed0 506097522914230528
 seed1 1084818905618843912
@@ -236,6 +216,6 @@ seed1 506097522914230528
 counted 1 0 1 1 0 0 1 0";
 
 #[test]
-fn keys_have_their_places_by_the_seed(rt: HostRuntime) -> Result<(), Fail> {
-    trials(&rt, rt.alloc(), SEEDS)
+fn what_caches_keep(rt: HostRuntime) -> Result<(), Fail> {
+    trials(&rt, rt.alloc(), TRIALS)
 }

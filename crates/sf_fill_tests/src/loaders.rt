@@ -94,7 +94,7 @@ fn one_byte(alloc: Global, byte: u8) -> Result<Bytes, AllocError> {
 pub enum TestLocal<'f> {
     /// What a script says.
     Plays(Script),
-    /// The same, once the second getter was answered.
+    /// What a script says, once the second getter was answered.
     Waits(Script, &'f Flags),
     /// The version of the key's source.
     Reads(Global, &'f Flags),

@@ -6,7 +6,12 @@
 use crate::trial::trials;
 use std::test::Fail;
 
-const BUDGETS: &str = "\
+const TRIALS: &str = "\
+trial near_letters_keep_within_their_bytes
+# A letter weighs its key's bytes and its value's, which has one.
+# - Of two letters of 4 bytes one is near within 4 bytes: the newer one, once the slots were emptied in turn.
+# - Of two letters of 3 bytes one is near within 5 bytes.
+# - Both are within 6 bytes.
 limit 4
 longest 8
 near 8
@@ -47,19 +52,12 @@ near-bytes 6
 =
 1 bb v=true 1.2 root=1.2 joiners=0
 1 aa v=true 1.1 root=1.1 joiners=0
-counted 15 12 3 3 0 0 3 0";
+counted 15 12 3 3 0 0 3 0
 
-// A letter weighs its key's bytes and its value's, which has one.
-//
-// - Of two letters of 4 bytes one is near within 4 bytes: the newer one, once the slots were emptied in turn.
-// - Of two letters of 3 bytes one is near within 5 bytes.
-// - Both are within 6 bytes.
-#[test]
-fn near_letters_keep_within_their_bytes(rt: HostRuntime) -> Result<(), Fail> {
-    trials(&rt, rt.alloc(), BUDGETS)
-}
-
-const MADE_ROOM: &str = "\
+trial near_slots_are_emptied_in_turn
+# A third letter has no room beside two others of 3 bytes. Each get of it in main empties one more of the eight slots, so it is near
+# after eight of them, whichever slots the others have. A letter that takes another's slot gives that one's bytes back: there is room
+# for one of 5 bytes then.
 limit 3
 longest 8
 near 8
@@ -110,17 +108,10 @@ near-bytes 6
 1 get cccc
 =
 1 cccc v=true 1.3 root=1.3 joiners=0
-counted 8 4 4 4 0 0 4 0";
+counted 8 4 4 4 0 0 4 0
 
-// A third letter has no room beside two others of 3 bytes. Each get of it in main empties one more of the eight slots, so it is near
-// after eight of them, whichever slots the others have. A letter that takes another's slot gives that one's bytes back: there is room
-// for one of 5 bytes then.
-#[test]
-fn near_slots_are_emptied_in_turn(rt: HostRuntime) -> Result<(), Fail> {
-    trials(&rt, rt.alloc(), MADE_ROOM)
-}
-
-const BOTH: &str = "\
+trial near_letters_of_both_slots_answer
+# Two letters are near at once, also where they share their first slot, as two of three places do.
 places 4
 limit 2
 near 2
@@ -152,15 +143,11 @@ near 2
 1 repeat 1 c
 1 repeat 1 a
 =
-counted 7 4 3 3 0 0 3 0";
+counted 7 4 3 3 0 0 3 0
 
-// Two letters are near at once, also where they share their first slot, as two of three places do.
-#[test]
-fn near_letters_of_both_slots_answer(rt: HostRuntime) -> Result<(), Fail> {
-    trials(&rt, rt.alloc(), BOTH)
-}
-
-const TOO_LARGE: &str = "\
+trial near_letter_that_is_too_large_empties_nothing
+# A letter that has more bytes than all may have together empties no slot, neither its own nor another: it is looked for in main
+# each time, and the other letter is still near.
 limit 6
 longest 8
 near 1
@@ -179,16 +166,11 @@ near-bytes 4
 1 repeat 20 bbbbb
 1 repeat 1 aaa
 =
-counted 23 21 2 2 0 0 2 0";
+counted 23 21 2 2 0 0 2 0
 
-// A letter that has more bytes than all may have together empties no slot, neither its own nor another: it is looked for in main
-// each time, and the other letter is still near.
-#[test]
-fn near_letter_that_is_too_large_empties_nothing(rt: HostRuntime) -> Result<(), Fail> {
-    trials(&rt, rt.alloc(), TOO_LARGE)
-}
-
-const GIVEN_BACK: &str = "\
+trial near_letters_give_their_bytes_back
+# There is room for one letter. A reload, a remove and a `forget_all` take it out, and give its bytes back at once: the next key's
+# letter is near as soon as main has answered it. So does a get that finds it forgotten by another getter.
 limit 3
 longest 8
 near 8
@@ -271,16 +253,11 @@ getters beside
 1 repeat 1 aa
 =
 2 reload bb cleared 1.1
-counted 7 3 4 4 0 0 4 0";
+counted 7 3 4 4 0 0 4 0
 
-// There is room for one letter. A reload, a remove and a `forget_all` take it out, and give its bytes back at once: the next key's
-// letter is near as soon as main has answered it. So does a get that finds it forgotten by another getter.
-#[test]
-fn near_letters_give_their_bytes_back(rt: HostRuntime) -> Result<(), Fail> {
-    trials(&rt, rt.alloc(), GIVEN_BACK)
-}
-
-const REMOVED: &str = "\
+trial removed_letter_is_near_in_neither_slot
+# A get after a remove asks the group, also where the letter lay in the second of its two slots: of three places two share their
+# first slot, and each two of the keys have their letters near in one of these trials.
 places 4
 near 2
 1 repeat 2 a
@@ -328,16 +305,14 @@ near 2
 =
 1 remove b true
 1 remove c true
-counted 7 2 5 5 0 0 5 0";
+counted 7 2 5 5 0 0 5 0
 
-// A get after a remove asks the group, also where the letter lay in the second of its two slots: of three places two share their
-// first slot, and each two of the keys have their letters near in one of these trials.
-#[test]
-fn removed_letter_is_near_in_neither_slot(rt: HostRuntime) -> Result<(), Fail> {
-    trials(&rt, rt.alloc(), REMOVED)
-}
-
-const LONG_WAYS: &str = "\
+trial near_letter_answers_63_gets
+# A near letter answers 63 gets, and the next one goes to the caches.
+# - The 63rd get is still answered, though main has dropped the letter.
+# - The 64th one finds nothing in main, and loads.
+# - The 64th one finds the letter in main, and the next get is answered near again: it makes the letter no more recent in main,
+#   which drops it for a third key. So the second getter finds the other key there.
 limit 2
 near 8
 1 repeat 2 a
@@ -363,27 +338,11 @@ near 8
 1 repeat 1 c
 2 repeat 1 b
 =
-counted 71 68 3 3 0 0 3 0";
+counted 71 68 3 3 0 0 3 0
 
-// A near letter answers 63 gets, and the next one goes to the caches.
-//
-// - The 63rd get is still answered, though main has dropped the letter.
-// - The 64th one finds nothing in main, and loads.
-// - The 64th one finds the letter in main, and the next get is answered near again: it makes the letter no more recent in main,
-//   which drops it for a third key. So the second getter finds the other key there.
-#[test]
-fn near_letter_answers_63_gets(rt: HostRuntime) -> Result<(), Fail> {
-    trials(&rt, rt.alloc(), LONG_WAYS)
-}
-
-// After 63 answers the letter of the first call is not asked any more, so its key is loaded by a second call. Main answers that one's
-// letter, which is near from then on, in the first one's place: it answers once main has dropped it.
-#[test]
-fn newer_letter_replaces_an_older_near_one(rt: HostRuntime) -> Result<(), Fail> {
-    trials(
-        &rt,
-        rt.alloc(),
-        "\
+trial newer_letter_replaces_an_older_near_one
+# After 63 answers the letter of the first call is not asked any more, so its key is loaded by a second call. Main answers that one's
+# letter, which is near from then on, in the first one's place: it answers once main has dropped it.
 limit 2
 near 8
 1 repeat 2 a
@@ -397,6 +356,9 @@ near 8
 1 a v=true 1.3 root=1.3 joiners=0
 1 a v=true 1.3 root=1.3 joiners=0
 1 a v=true 1.3 root=1.3 joiners=0
-counted 70 66 4 4 0 0 4 0",
-    )
+counted 70 66 4 4 0 0 4 0";
+
+#[test]
+fn near_letters(rt: HostRuntime) -> Result<(), Fail> {
+    trials(&rt, rt.alloc(), TRIALS)
 }

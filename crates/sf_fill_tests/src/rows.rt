@@ -7,12 +7,8 @@ use std::sync::Wait;
 use std::test::Fail;
 use std::thread::Threads;
 
-#[test]
-fn reload_makes_a_third_get_load_again(rt: HostRuntime) -> Result<(), Fail> {
-    trials(
-        &rt,
-        rt.alloc(),
-        "\
+const TRIALS: &str = "\
+trial reload_makes_a_third_get_load_again
 1 get a
 1 get a
 1 reload a
@@ -31,17 +27,10 @@ fn reload_makes_a_third_get_load_again(rt: HostRuntime) -> Result<(), Fail> {
 1 settle 1 1.2 0
 1 handed 1 1.2
 1 log
-counted 3 1 2 2 0 0 2 0",
-    )
-}
+counted 3 1 2 2 0 0 2 0
 
-// There is room for three events. What is taken is gone, and the room with it.
-#[test]
-fn logs_have_room_for_three_events(rt: HostRuntime) -> Result<(), Fail> {
-    trials(
-        &rt,
-        rt.alloc(),
-        "\
+trial logs_have_room_for_three_events
+# There is room for three events. What is taken is gone, and the room with it.
 log 3
 1 get a
 1 reload a
@@ -57,16 +46,9 @@ log 3
 1 log
 1 a v=true 1.2 root=1.2 joiners=0
 1 log
-counted 2 0 2 2 0 0 2 0",
-    )
-}
+counted 2 0 2 2 0 0 2 0
 
-#[test]
-fn failed_peer_then_a_hit_for_the_second_getter(rt: HostRuntime) -> Result<(), Fail> {
-    trials(
-        &rt,
-        rt.alloc(),
-        "\
+trial failed_peer_then_a_hit_for_the_second_getter
 peer fault
 1 get a
 2 get a
@@ -75,16 +57,9 @@ peer fault
 1 a v=true 1.1 root=1.1 joiners=0
 2 a v=true 1.1 root=1.1 joiners=0
 2 owes=false settled=true
-counted 2 1 1 1 0 1 1 0",
-    )
-}
+counted 2 1 1 1 0 1 1 0
 
-#[test]
-fn local_fault_is_answered_and_not_kept(rt: HostRuntime) -> Result<(), Fail> {
-    trials(
-        &rt,
-        rt.alloc(),
-        "\
+trial local_fault_is_answered_and_not_kept
 local fault
 getters end
 1 get a
@@ -92,17 +67,10 @@ getters end
 =
 1 a down
 2 a down
-counted 2 0 2 2 0 0 0 2",
-    )
-}
+counted 2 0 2 2 0 0 0 2
 
-// The first draw is 0, so the peer's first value is kept; its second is not.
-#[test]
-fn one_in_ten_of_the_peers_values(rt: HostRuntime) -> Result<(), Fail> {
-    trials(
-        &rt,
-        rt.alloc(),
-        "\
+trial one_in_ten_of_the_peers_values
+# The first draw is 0, so the peer's first value is kept; its second is not.
 peer value
 1 get a
 1 get a
@@ -113,16 +81,9 @@ peer value
 1 a v=true 1.1 root=1.1 joiners=0
 1 b v=true 1.2 root=1.2 joiners=0
 1 b v=true 1.3 root=1.3 joiners=0
-counted 4 1 3 3 3 0 0 0",
-    )
-}
+counted 4 1 3 3 3 0 0 0
 
-#[test]
-fn refused_keys_and_no_room(rt: HostRuntime) -> Result<(), Fail> {
-    trials(
-        &rt,
-        rt.alloc(),
-        "\
+trial refused_keys_and_no_room
 places 1
 limit 0
 1 get a
@@ -136,17 +97,10 @@ limit 0
 1 long! key too long
 1 a v=true 1.2 root=1.2 joiners=0
 1 reload b directory full
-counted 4 0 2 2 0 0 2 0",
-    )
-}
+counted 4 0 2 2 0 0 2 0
 
-// The load of `a` waits until a get of `b` was answered.
-#[test]
-fn load_holds_no_lock(rt: HostRuntime) -> Result<(), Fail> {
-    trials(
-        &rt,
-        rt.alloc(),
-        "\
+trial load_holds_no_lock
+# The load of `a` waits until a get of `b` was answered.
 getters beside
 1 get a
 2 await loading
@@ -155,17 +109,10 @@ getters beside
 =
 1 a v=true 1.1 root=1.1 joiners=0
 2 b v=true 2.1 root=2.1 joiners=0
-counted 2 0 2 2 0 0 2 0",
-    )
-}
+counted 2 0 2 2 0 0 2 0
 
-// The load of `a` waits until a reload of `a` has closed its call. What it gives isn't kept.
-#[test]
-fn reload_during_load(rt: HostRuntime) -> Result<(), Fail> {
-    trials(
-        &rt,
-        rt.alloc(),
-        "\
+trial reload_during_load
+# The load of `a` waits until a reload of `a` has closed its call. What it gives isn't kept.
 getters beside
 1 get a
 1 tell got
@@ -178,17 +125,10 @@ getters beside
 1 a v=true 1.1 root=1.1 joiners=0
 2 reload a closed 1.1
 2 a v=true 2.1 root=2.1 joiners=0
-counted 2 0 2 2 0 0 2 0",
-    )
-}
+counted 2 0 2 2 0 0 2 0
 
-// What a closed call gives does not take the place of a newer letter in the cache.
-#[test]
-fn old_answer_leaves_the_newer_letter(rt: HostRuntime) -> Result<(), Fail> {
-    trials(
-        &rt,
-        rt.alloc(),
-        "\
+trial old_answer_leaves_the_newer_letter
+# What a closed call gives does not take the place of a newer letter in the cache.
 getters beside
 1 get a
 1 tell got
@@ -203,18 +143,11 @@ getters beside
 2 reload a closed 1.1
 2 a v=true 2.1 root=2.1 joiners=0
 2 a v=true 2.1 root=2.1 joiners=0
-counted 3 1 2 2 0 0 2 0",
-    )
-}
+counted 3 1 2 2 0 0 2 0
 
-// Two keys share the only place of an open fill, and any key has one. Each get answers of its own key: what the other has left in
-// the cache is neither answered, nor taken over by the second look of a leader.
-#[test]
-fn two_keys_on_one_place(rt: HostRuntime) -> Result<(), Fail> {
-    trials(
-        &rt,
-        rt.alloc(),
-        "\
+trial two_keys_on_one_place
+# Two keys share the only place of an open fill, and any key has one. Each get answers of its own key: what the other has left in
+# the cache is neither answered, nor taken over by the second look of a leader.
 places 1
 keys hashed
 1 get a
@@ -242,52 +175,11 @@ keys hashed
 1 handed 1 1.3
 1 forgetcall 1 1.3 cleared
 1 log
-counted 4 1 3 3 0 0 3 0",
-    )
-}
+counted 4 1 3 3 0 0 3 0
 
-#[test]
-fn no_old_answers_after_a_reload(rt: HostRuntime) -> Result<(), Fail> {
-    let script = "\
-local version
-getters beside
-1 read
-2 read
-3 change
-";
-    read_beside_changes(&rt, rt.alloc(), script)
-}
-
-// The same where getters keep letters near.
-#[test]
-fn no_old_answers_from_near_letters(rt: HostRuntime) -> Result<(), Fail> {
-    let script = "\
-near 8
-local version
-getters beside
-1 read
-2 read
-3 change
-";
-    read_beside_changes(&rt, rt.alloc(), script)
-}
-
-// Both keys have one place, so getters of the one join calls of the other, and ask again.
-#[test]
-fn no_old_answers_on_one_place(rt: HostRuntime) -> Result<(), Fail> {
-    let script = "\
-places 1
-keys hashed
-local version
-getters beside
-1 read
-2 read
-3 change
-";
-    read_beside_changes(&rt, rt.alloc(), script)
-}
-
-const BEHIND: &str = "\
+trial book_has_each_get_as_it_ends
+# Each get is in the book when it ends, also one that is refused. Where letters are kept near, the last 63 that these answered are
+# missing at most; and none once the getter was spent, in either way, or told to enter them.
 places 2
 longest 3
 getters end
@@ -322,11 +214,41 @@ near 2
 1 behind 63
 counted 400 398 2 2 0 0 2 0";
 
-// Each get is in the book when it ends, also one that is refused. Where letters are kept near, the last 63 that these answered are
-// missing at most; and none once the getter was spent, in either way, or told to enter them.
 #[test]
-fn book_has_each_get_as_it_ends(rt: HostRuntime) -> Result<(), Fail> {
-    trials(&rt, rt.alloc(), BEHIND)
+fn gets_and_reloads(rt: HostRuntime) -> Result<(), Fail> {
+    trials(&rt, rt.alloc(), TRIALS)
+}
+
+// The second time getters keep letters near. The third time both keys have one place, so getters of the one join calls of the other, and
+// ask again.
+const CHANGES: &str = "\
+local version
+getters beside
+1 read
+2 read
+3 change
+
+near 8
+local version
+getters beside
+1 read
+2 read
+3 change
+
+places 1
+keys hashed
+local version
+getters beside
+1 read
+2 read
+3 change";
+
+#[test]
+fn no_old_answers_after_a_reload(rt: HostRuntime) -> Result<(), Fail> {
+    for script in CHANGES.split("\n\n") {
+        read_beside_changes(&rt, rt.alloc(), script)?;
+    }
+    Ok(())
 }
 
 // Two getters read while a third changes what loads give, and reloads.

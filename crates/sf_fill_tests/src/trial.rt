@@ -1,7 +1,7 @@
 //! Trials: a fill with three getters, made from a script, and what comes of it.
 //!
 //! A trial is a text of a script, a line `=` and what comes of the script. A line of the script begins with the number of a getter
-//! that makes the step, or it says something of the fill:
+//! that makes the step, or it says something of the fill; or it names the trials from here on (`trial NAME`), or is a comment (`# ..`):
 //!
 //!     limit 2
 //!     1 get a
@@ -541,6 +541,8 @@ fn is_known(line: &str) -> bool {
         word,
         "1" | "2"
             | "3"
+            | "trial"
+            | "#"
             | "places"
             | "keys"
             | "longest"

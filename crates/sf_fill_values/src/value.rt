@@ -70,7 +70,7 @@ impl<'d, D: Naming, O: Origin> FillValue<'d, D, O> {
         (spot, root, result)
     }
 
-    /// The same, with bytes that no other value shares; refused where there is no memory for them.
+    /// This value with a copy of its bytes that no other value shares; refused where there is no memory for them.
     pub fn into_own(self, alloc: Global) -> Result<Self, Memory>
         ensures { IfOk result (λ own. own ≡ self.entry) }
     {

@@ -12,9 +12,9 @@ use sf_group_steps::{Actor, ask_current, ask_named, is_still_current};
 use sf_history::CallId;
 
 impl<V: Fit> Group<V> {
-    /// Whether the letter's call is its place's current one. The caller learns what the letter's note shows first, so a yes
-    /// was right at a moment after all that either had seen; a no is right at the end. It tries nothing again and takes no
-    /// memory.
+    /// Whether the letter's call is its place's current one. The caller first learns what the letter's note shows. Where the
+    /// answer is yes, the call was current at some time later than all that the caller and the note had seen; where it is no, the
+    /// call is not current when the question ends. It tries nothing again and takes no memory.
     pub fn is_current(&self, caller: &mut Caller<V>, letter: &mut Letter<V>) -> bool
         requires own { caller.old.group ≡ self.now }
         requires letter { letter.old.group ≡ self.now }
@@ -44,9 +44,9 @@ impl<V: Fit> Group<V> {
         };
         ask_named(&self.table.shared, &mut caller.seated.seat, actor)
     }
-    /// Whether the call of these numbers, whichever they are, is the place's current one. A yes was right at a moment after all
-    /// that the caller had seen, whether it knew of the call or not; a no is right at the end. It loads two words at most,
-    /// tries nothing again and takes no memory.
+    /// Whether the call of these numbers, whichever they are, is the place's current one. Where the answer is yes, the call was
+    /// current at some time later than all that the caller had seen, whether it knew of the call or not; where it is no, the call
+    /// is not current when the question ends. It loads two words at most, tries nothing again and takes no memory.
     pub fn is_still_current(&self, caller: &mut Caller<V>, place: u32, call: CallId) -> bool
         requires own { caller.old.group ≡ self.now }
         requires place { IsPlaceOf self.now place }
@@ -64,7 +64,7 @@ impl<V: Fit> Group<V> {
 }
 
 impl<V: Fit> Flight<V> {
-    /// The same question of a leader.
+    /// Whether the call of these numbers is the place's current one, as `Caller::is_still_current` says it, for a leader.
     pub fn is_still_current(&mut self, group: &Group<V>, place: u32, call: CallId) -> bool
         requires own { self.old.group ≡ group.now }
         requires place { IsPlaceOf group.now place }
@@ -82,7 +82,7 @@ impl<V: Fit> Flight<V> {
 }
 
 impl<V: Fit> Ticket<V> {
-    /// The same question of one who waits.
+    /// Whether the call of these numbers is the place's current one, as `Caller::is_still_current` says it, for a caller that waits.
     pub fn is_still_current(&mut self, group: &Group<V>, place: u32, call: CallId) -> bool
         requires own { self.old.group ≡ group.now }
         requires place { IsPlaceOf group.now place }
@@ -100,7 +100,7 @@ impl<V: Fit> Ticket<V> {
 }
 
 impl<V: Fit> Settled<V> {
-    /// The same question of one who owes letters.
+    /// Whether the call of these numbers is the place's current one, as `Caller::is_still_current` says it, for a caller that owes letters.
     pub fn is_still_current(&mut self, group: &Group<V>, place: u32, call: CallId) -> bool
         requires own { self.old.group ≡ group.now }
         requires place { IsPlaceOf group.now place }

@@ -87,7 +87,7 @@ impl<V: Fit> Group<V> {
         self.hand_on(&self.resting, settled)
     }
 
-    /// The same for a group in which nobody rests: nobody is woken, so who rests may sleep on.
+    /// Goes on, in a group in which nobody rests, with a delivery that lacked memory: nobody is woken, so a caller that rests may sleep on.
     pub fn go_on_unrested(&self, settled: Settled<V>) -> Finished<Caller<V>, Letter<V>, Settled<V>>
         requires own { settled.group ≡ self.now }
         ensures { HasGoneOn V.fits settled result }

@@ -16,16 +16,16 @@ module _ {V : Type 0} where
     pub within : StartsWith new moment
     pub current : current_call nat_eq moment k ≡ Some c
 
-  -- The caller has learnt what the letter's note shows, and made nothing. A yes was right at a moment of the call, and a no
-  -- is right at its end.
+  -- The caller has learnt what the letter's note shows, and made nothing. Where the answer is yes, the call was current at some time
+  -- during the question; where it is no, it is not current at its end.
   pub record HasQuestioned (c : CallerValue V) (l : LetterValue V) (yes : Bool) (d : CallerValue V) (m : LetterValue V) : Type 0 where
     pub learnt : HasLearnt c l.seen d
     pub lent : HasLent l m
     pub right : IsTrue yes → WasCurrent l.place l.call c.seen l.seen d.seen
     pub outdated : IsFalse yes → current_call nat_eq d.seen l.place ≢ Some l.call
 
-  -- How the question ends whether a call, whichever it is, is the place's current one: a yes was right at a moment after all that
-  -- had been seen, and a no is right at the end.
+  -- How the question ends whether a call, whichever it is, is the place's current one: where the answer is yes, it was current at
+  -- some time later than all that had been seen; where it is no, it is not current at the end.
   pub record IsStillSaid (k : ℕ) (c : CallId) (yes : Bool) (seen new : List (Event ℕ V)) : Type 0 where
     pub right : IsTrue yes → WasCurrent k c seen seen new
     pub outdated : IsFalse yes → current_call nat_eq new k ≢ Some c

@@ -24,7 +24,7 @@ asks_by (ask.Lead seen f) = 1
 asks_by (ask.Enter c seen) = 1
 asks_by _ = 0
 
--- The same of a Forget. The clear after a close is none: the Forget is made by then, and does not do that again.
+-- 1 where the next step of a Forget is an exchange. The clear after a close is none: the Forget is made by then, and does not do that again.
 abbrev pub forgets_by : ForgetStep → ℕ
 forgets_by (forget.Close c seen) = 1
 forgets_by (forget.FirstClear c) = 1

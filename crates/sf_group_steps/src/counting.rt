@@ -98,7 +98,7 @@ fn count_joiners<V: Fit>(
 pub struct Tally {
     /// How many joined the call.
     pub joiners: u32,
-    /// Who joined it last.
+    /// The caller that joined it last.
     pub top: Option<u32>,
 }
 

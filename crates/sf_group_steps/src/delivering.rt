@@ -208,7 +208,7 @@ pub(crate) fn deliver<V: Fit>(
     );
 }
 
-/// The same for the own channel, which comes last.
+/// Puts the letter into the own channel's call, which comes last, and fills that.
 pub(crate) fn deliver_own<V: Fit>(
     words: &Words<V>,
     seat: &mut WordSeat<V>,

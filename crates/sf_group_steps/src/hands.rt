@@ -161,7 +161,7 @@ fn hand_own<V: Fit, W: Wakes>(
     Ok(())
 }
 
-// The same for a list that may be empty.
+// Hands the letters of a list, which may be empty, to its members.
 fn hand_list<V: Fit, W: Wakes>(
     words: &Words<V>,
     resting: &W,

@@ -108,8 +108,8 @@ fn question_look<V: Fit>(
     names(word.state(), called)
 }
 
-/// Whether the call, which was led on the place, is the place's current one. A yes was right at a moment since, and a no
-/// is right at the end.
+/// Whether the call, which was led on the place, is the place's current one. Where the answer is yes, the call was current at some
+/// time since the question began; where it is no, it is not current when the question ends.
 pub fn ask_current<V: Fit>(
     words: &Words<V>,
     seat: &mut WordSeat<V>,

@@ -121,7 +121,7 @@ impl<'a> Player<'a> {
         Reply::cannot()
     }
 
-    /// Obeys the lines of the script in turn. Each is a command, and the reply that is due.
+    /// Obeys the lines of the script in turn. Each is a command, and the reply that is due; or a comment, `# ..`.
     pub(crate) fn play(
         &mut self,
         rt: &impl Abort,
@@ -130,6 +130,9 @@ impl<'a> Player<'a> {
     ) -> Result<(), Memory> {
         for line in script.lines() {
             let (command, due) = line.split_once(": ").unwrap_or((line, ""));
+            if command.starts_with('#') {
+                continue;
+            }
             let found = self.obey(Command::read(command)).text(alloc)?;
             assert!(rt; found.as_str() == due, "{line}, but {found}");
         }
@@ -137,22 +140,50 @@ impl<'a> Player<'a> {
     }
 }
 
-/// Callers of a new group of so many places and callers, and with this first generation, obey the script.
-pub(crate) fn play(
-    rt: &impl Abort,
-    alloc: Global,
+// How many places and callers a group has, and their first generation.
+#[derive(Clone, Copy)]
+struct Sizes {
     places: u32,
     callers: u32,
     first: u32,
-    script: &str,
-) -> Result<(), Fail>
-    requires places { (1 ≤ places) × (places ≤ 100) }
-    requires callers { (1 ≤ callers) × (callers ≤ 65535) }
-    requires first { 1 ≤ first }
+}
+
+// Of a line `group PLACES CALLERS FIRST NAME`.
+fn sizes_of(rt: &impl Abort, line: &str) -> Sizes
+    ensures places { (1 ≤ result.places) × (result.places ≤ 100) }
+    ensures callers { (1 ≤ result.callers) × (result.callers ≤ 65535) }
+    ensures first { 1 ≤ result.first }
 {
-    let (group, mut list) = Group::<Value>::new(alloc, places, callers, first)?;
-    assert!(rt; group.places() == places, "another number of places");
-    let mut player = seat(alloc, &group, &mut list, callers)?;
+    let mut words = line.split(' ');
+    let is_group = words.next() == Some("group");
+    let places = words.next().unwrap_or("").parse::<u32>().unwrap_or(0);
+    let callers = words.next().unwrap_or("").parse::<u32>().unwrap_or(0);
+    let first = words.next().unwrap_or("").parse::<u32>().unwrap_or(0);
+    assert!(rt; is_group && 1 <= first, "{line}");
+    assert!(rt; 1 <= places && places <= 100, "{line}");
+    assert!(rt; 1 <= callers && callers <= 65_535, "{line}");
+    Sizes {
+        places,
+        callers,
+        first,
+    }
+}
+
+// Callers of a new group obey the script below its first line, which says how large the group is.
+fn play(rt: &impl Abort, alloc: Global, text: &str) -> Result<(), Fail> {
+    let (head, script) = text.split_once('\n').unwrap_or((text, ""));
+    let sizes = sizes_of(rt, head);
+    let (group, mut list) = Group::<Value>::new(alloc, sizes.places, sizes.callers, sizes.first)?;
+    assert!(rt; group.places() == sizes.places, "another number of places");
+    let mut player = seat(alloc, &group, &mut list, sizes.callers)?;
     player.play(rt, alloc, script)?;
+    Ok(())
+}
+
+/// Plays each of these scripts. An empty line stands between two of them.
+pub(crate) fn plays(rt: &impl Abort, alloc: Global, text: &str) -> Result<(), Fail> {
+    for one in text.split("\n\n") {
+        play(rt, alloc, one)?;
+    }
     Ok(())
 }

@@ -32,7 +32,7 @@ impl Reply {
         }
     }
 
-    /// The same, with a call.
+    /// What the caller did, with a call.
     pub(crate) fn of(caller: u32, did: &'static str, call: CallId) -> Reply {
         Reply {
             call: Some(call),
@@ -53,7 +53,7 @@ impl Reply {
         }
     }
 
-    /// The same, with a number.
+    /// What the caller did, with a number.
     pub(crate) fn counted(caller: u32, did: &'static str, number: u32) -> Reply {
         Reply::did(caller, did).with(number)
     }
@@ -140,7 +140,7 @@ impl Reply {
         }
     }
 
-    /// The same reply, with how many joined.
+    /// This reply, with how many joined.
     pub(crate) fn joined_by(self, joiners: u32) -> Reply {
         Reply {
             joiners: Some(joiners),
@@ -148,7 +148,7 @@ impl Reply {
         }
     }
 
-    /// The same reply, with a number.
+    /// This reply, with a number.
     pub(crate) fn with(self, number: u32) -> Reply {
         Reply {
             number: Some(number),

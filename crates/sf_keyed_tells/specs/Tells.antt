@@ -12,7 +12,7 @@ use Rattle.sf_keyed_laws.specs.Steps.{HasNoOpen, Leads, led_on, closed_one}
 abbrev pub KeyedEvent : Type 0
 KeyedEvent = Event ℕ (Option ℕ)
 
--- a call's number has its cell in the lower 16 bits, and above it the cell's generation
+-- a call's number has its cell in the lower 20 bits, and above it the cell's generation
 abbrev pub call_of : ℕ → CallId
 call_of e = record { caller = e % 1048576; generation = e / 1048576 }
 

@@ -12,8 +12,6 @@ const ADA: Name = Name { low: 1, high: 3 };
 
 const BOB: Name = Name { low: 2, high: 3 };
 
-const HALF: Name = Name { low: 1, high: 4 };
-
 // One hash slot, so that all names meet.
 const MEETING: KeyedSizes = KeyedSizes {
     tops: 1,
@@ -136,87 +134,6 @@ fn who_joins_gets_the_value_once_it_is_there(rt: HostRuntime) -> Result<(), Fail
     }
     // The cell is free again.
     assert!(rt; claims(&group, &mut other, 0));
-    Ok(())
-}
-
-#[test]
-fn who_joined_and_left_counts(rt: HostRuntime) -> Result<(), Fail> {
-    let (group, mut me) = KeyedGroup::new(rt.alloc(), MEETING)?;
-    let mut other = group.another(&mut me, 1);
-    assert!(rt; claims(&group, &mut me, 0));
-    let Some(flight) = lead(&group, &mut me, ADA) else {
-        panic!(rt; "no call of the name was open")
-    };
-    let Some(ticket) = join(&group, &mut other, ADA) else {
-        panic!(rt; "the name's call was open")
-    };
-    group.leave(&mut other, ticket);
-    match group.settle(&mut me, flight, 7) {
-        Settled::Told(_, on) => assert!(rt; on.joined && on.holders == 1),
-        Settled::Alone => panic!(rt; "one had joined"),
-    }
-    Ok(())
-}
-
-#[test]
-fn a_forget_has_the_next_lead_anew(rt: HostRuntime) -> Result<(), Fail> {
-    let (group, mut me) = KeyedGroup::new(rt.alloc(), MEETING)?;
-    let mut other = group.another(&mut me, 1);
-    assert!(rt; group.forget(&mut other, ADA, TRIES) == Forgotten::Nothing);
-    assert!(rt; claims(&group, &mut me, 0) && claims(&group, &mut other, 1));
-    let Some(old) = lead(&group, &mut me, ADA) else {
-        panic!(rt; "no call of the name was open")
-    };
-    assert!(rt; group.forget(&mut other, BOB, TRIES) == Forgotten::Nothing);
-    assert!(rt; matches!(group.forget(&mut other, ADA, TRIES), Forgotten::Closed(_)));
-    let Some(new) = lead(&group, &mut other, ADA) else {
-        panic!(rt; "the name's call was closed")
-    };
-    match group.settle(&mut me, old, 1) {
-        Settled::Told(mine, on) => {
-            assert!(rt; !on.joined && on.forgotten);
-            group.leave(&mut me, mine);
-        }
-        Settled::Alone => panic!(rt; "a Forget had closed the call"),
-    }
-    let Some(ticket) = join(&group, &mut me, ADA) else {
-        panic!(rt; "the newer call was open")
-    };
-    group.settle(&mut other, new, 2);
-    match group.take(&mut me, ticket) {
-        Ok(value) => assert!(rt; value == 2),
-        Err(_) => panic!(rt; "the call was settled"),
-    }
-    Ok(())
-}
-
-#[test]
-fn names_that_meet_keep_apart(rt: HostRuntime) -> Result<(), Fail> {
-    let (group, mut me) = KeyedGroup::new(rt.alloc(), MEETING)?;
-    let mut other = group.another(&mut me, 1);
-    let mut third = group.another(&mut me, 2);
-    assert!(rt;
-        claims(&group, &mut me, 0) && claims(&group, &mut other, 1) && claims(&group, &mut third, 2)
-    );
-    let Some(ada) = lead(&group, &mut me, ADA) else {
-        panic!(rt; "no call of the name was open")
-    };
-    let Some(bob) = lead(&group, &mut other, BOB) else {
-        panic!(rt; "no call of the name was open")
-    };
-    let Some(half) = lead(&group, &mut third, HALF) else {
-        panic!(rt; "no call of the name was open")
-    };
-    let Some(ticket) = join(&group, &mut third, ADA) else {
-        panic!(rt; "the name's call was open")
-    };
-    assert!(rt; matches!(group.settle(&mut other, bob, 2), Settled::Alone));
-    assert!(rt; matches!(group.settle(&mut third, half, 3), Settled::Alone));
-    group.settle(&mut me, ada, 1);
-    match group.take(&mut third, ticket) {
-        Ok(value) => assert!(rt; value == 1),
-        Err(_) => panic!(rt; "the call was settled"),
-    }
     Ok(())
 }
 

@@ -1,7 +1,7 @@
 //! A walk over the slot of a name: an asking, which leads or joins, and a Forget.
 ghost use Rattle.std.specs.Prelude.{◌≡◌, ◌≢◌, ◌+◌, ◌/◌, ◌%◌, ◌<◌, ◌≤◌, ◌^◌, ℕ, true, false, Some, None};
 ghost use Rattle.sf_keyed_words.specs.Rule.{is_open_call, number};
-ghost use Rattle.sf_keyed_words.specs.Rule.{slot_of as the_slot_of};
+ghost use Rattle.sf_keyed_words.specs.Rule.{hash_of as the_hash_of, slot_of as the_slot_of};
 ghost use Rattle.sf_keyed_walks.specs.Walk.{IsLaid, Examined, Stays, HasLooked, MetNone, Shown, Began, WentThrough, HasMet, HasLed, HasJoined, HasClosed, HasNone, HasOther, HasSealed, HasSwept, IsGone, KeepsCalls};
 ghost use Rattle.sf_keyed_walks.specs.declared.walk.Walked.{Walked as WalkedFields};
 ghost use Rattle.sf_keyed_walks.specs.declared.walk.Way.TheVariants as way;
@@ -94,17 +94,25 @@ fn is_open(state: u64, call: u64) -> bool
     call != 0 && state / 8_388_608 == call / 1_048_576 && state / 2_097_152 % 4 == 2
 }
 
+// The hash of a name's two words, by the seeds. Of a sum of the words, each times its seed, the upper half would be quicker; but for one seed
+// in some hundred it has many names in one slot that count up, since where two of them meet, so do all that are as far apart.
+fn hash_of(low_seed: u64, high_seed: u64, low: u64, high: u64) -> u64
+    ensures { result ≡ the_hash_of low_seed high_seed low high % 18446744073709551616 }
+{
+    let product = low.wrapping_add(low_seed) as u128 * high.wrapping_add(high_seed) as u128;
+    let folded = (product % 0x1_0000_0000_0000_0000) as u64
+        ^ (product / 0x1_0000_0000_0000_0000) as u64;
+    folded.wrapping_mul(0x9E37_79B9_7F4A_7C15)
+}
+
 /// The slot of a name.
 pub fn slot_of(sizes: KeyedSizes, name: Name) -> u64
     requires { (0 < sizes.tops) × (sizes.tops ≤ 4294967296) }
     ensures is { result ≡ the_slot_of sizes (number name) }
     ensures within { result < sizes.tops }
 {
-    let mixed = name
-        .low
-        .wrapping_mul(sizes.low_seed)
-        .wrapping_add(name.high.wrapping_mul(sizes.high_seed));
-    mixed / 0x1_0000_0000 * sizes.tops / 0x1_0000_0000
+    hash_of(sizes.low_seed, sizes.high_seed, name.low, name.high) / 0x1_0000_0000 * sizes.tops
+        / 0x1_0000_0000
 }
 
 // Looks at the call that the seat is looking at.

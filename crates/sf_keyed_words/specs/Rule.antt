@@ -1,5 +1,5 @@
 -- The rule of the table: its words are those of a keyed group, and each seat's view is right of it.
-use Rattle.std.specs.Prelude.{◌≡◌, ◌≢◌, ℕ, ◌+◌, ◌*◌, ◌/◌, ◌%◌, ◌<◌, ◌≤◌, ◌==◌, ◌&&◌, not, Bool, true, false, cond, length, slice_index, List, [], ◌++◌, Some, sum_by}
+use Rattle.std.specs.Prelude.{◌≡◌, ◌≢◌, ℕ, ◌+◌, ◌*◌, ◌/◌, ◌%◌, ◌<◌, ◌≤◌, ◌==◌, ◌&&◌, not, Bool, true, false, bit_xor, cond, length, slice_index, List, [], ◌++◌, Some, sum_by}
 use Rattle.std.specs.List.{list_any}
 use mathlib.Core.Option.{some}
 use lib.ListN.{get_elem?}
@@ -19,7 +19,7 @@ use Rattle.sf_keyed_words.specs.declared.rule.View.{View}
 abbrev pub side_at : KeyedSizes → ℕ → ℕ
 side_at z w = z.tops + w
 
--- the cell of a call is its number's lower 16 bits
+-- the cell of a call is its number's lower 20 bits
 abbrev pub state_at : KeyedSizes → ℕ → ℕ
 state_at z e = z.tops + z.sides + 8 * (e % 1048576)
 
@@ -39,9 +39,15 @@ word_total z = z.tops + z.sides + 8 * z.cells
 abbrev pub sides_from : ℕ → ℕ
 sides_from p = p / 64 * 16
 
--- the slot of a name: the upper half of a sum of its words, each times its seed, scaled down to the slots
+-- the hash of a name's two words, of which 64 bits count: each word with its seed added, and multiplied; the two halves of the product as one word; and that times 2 ^ 64 over the golden ratio
+unfoldable pub hash_of : (low_seed high_seed low high : ℕ) → ℕ
+hash_of low_seed high_seed low high =
+    let product : ℕ = (low + low_seed) % 18446744073709551616 * ((high + high_seed) % 18446744073709551616) in
+    bit_xor (product % 18446744073709551616) (product / 18446744073709551616) * 11400714819323198485
+
+-- the slot of a name: the upper half of its hash, scaled down to the slots
 abbrev pub slot_of : KeyedSizes → ℕ → ℕ
-slot_of z k = (k % 18446744073709551616 * z.low_seed + k / 18446744073709551616 * z.high_seed) % 18446744073709551616 / 4294967296 * z.tops / 4294967296
+slot_of z k = hash_of z.low_seed z.high_seed (k % 18446744073709551616) (k / 18446744073709551616) % 18446744073709551616 / 4294967296 * z.tops / 4294967296
 
 abbrev pub layout_of : KeyedSizes → Layout
 layout_of z = record { slot_of = slot_of z; sides_of = sides_from; width = 16 }

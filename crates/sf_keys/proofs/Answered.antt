@@ -96,38 +96,38 @@ module _ {V : Type 0} (fits : FitOf V) (key_of : V → List ℕ) (k : ℕ) (key 
       }
 
   -- the caller led, with a value that the load answered
-  pub letter_led : (answers : V → Type 0) → ((v : V) → answers v → key_of v ≡ key) → (n : ℕ) (c u d : CallerValue V) (l : LetterValue V) → HasMissed fits key_of k key n c u
-      → HasLoaded fits answers u k d l → HasLetter fits key_of k key answers c d l
-  letter_led answers keyed n c u d l before loaded = let same = missed_caller n c u before in record {
+  pub letter_led : {F : Type 0} (answers : V → Type 0) (load : F) → ((v : V) → answers v → key_of v ≡ key) → (n : ℕ) (c u d : CallerValue V) (l : LetterValue V)
+      → HasMissed fits key_of k key n c u → HasLoaded fits answers u k d l → HasLetter fits key_of k key answers load c d l None
+  letter_led answers load keyed n c u d l before loaded = let same = missed_caller n c u before in record {
     group = loaded.finished.group ∙ (loaded.begun.group ∙ same.group);
     number = loaded.finished.number ∙ (loaded.begun.number ∙ same.number);
     missed = n;
     asking = u;
     before = before;
-    done = inl loaded;
+    done = inl (loaded, refl);
     key_is = ap key_of loaded.finished.letter.value ∙ keyed loaded.value loaded.answered;
     fresh = fresh_led c u d loaded.flight loaded.value l same.begins loaded.begun loaded.finished;
   }
 
   -- the caller joined the call of its own key
-  pub letter_waited : (answers : V → Type 0) (n : ℕ) (c u d : CallerValue V) (l : LetterValue V) → HasMissed fits key_of k key n c u
-      → HasWaited fits u k d l → key_of l.value ≡ key → HasLetter fits key_of k key answers c d l
-  letter_waited answers n c u d l before w is = let same = missed_caller n c u before in record {
+  pub letter_waited : {F : Type 0} (answers : V → Type 0) (load back : F) → back ≡ load → (n : ℕ) (c u d : CallerValue V) (l : LetterValue V) → HasMissed fits key_of k key n c u
+      → HasWaited fits u k d l → key_of l.value ≡ key → HasLetter fits key_of k key answers load c d l (Some back)
+  letter_waited answers load back back_is n c u d l before w is = let same = missed_caller n c u before in record {
     group = w.waited.group ∙ (w.begun.group ∙ same.group);
     number = w.waited.number ∙ (w.begun.number ∙ same.number);
     missed = n;
     asking = u;
     before = before;
-    done = inr w;
+    done = inr (w, ap Some back_is);
     key_is = is;
     fresh = fresh_waited c u d l same.begins w;
   }
 
   -- the same of an asking with what is left of the load, at the key's place
   pub led_by : {F : Type 0} (post : F → V → Type 0) (load kept : F) (p : ℕ) → kept ≡ load → p ≡ k → ((v : V) → post load v → key_of v ≡ key) → (n : ℕ) (c u d : CallerValue V) (l : LetterValue V)
-      → HasMissed fits key_of k key n c u → HasLoaded fits (post kept) u p d l → HasLetter fits key_of k key (post load) c d l
+      → HasMissed fits key_of k key n c u → HasLoaded fits (post kept) u p d l → HasLetter fits key_of k key (post load) load c d l None
   led_by {F = F} post load kept p kept_is p_is keyed n c u d l before loaded =
-      letter_led (post load) keyed n c u d l before
+      letter_led (post load) load keyed n c u d l before
       (subst (λ (f : F). HasLoaded fits (post f) u k d l) kept_is (subst (λ (j : ℕ). HasLoaded fits (post kept) u j d l) p_is loaded))
 
   pub waited_at : (u d : CallerValue V) (l : LetterValue V) (p : ℕ) → p ≡ k → HasWaited fits u p d l → HasWaited fits u k d l

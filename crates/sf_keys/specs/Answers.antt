@@ -9,7 +9,7 @@ use Rattle.sf_group_rows.specs.Seen.{StartsWith, Stands}
 use Rattle.sf_group_rows.specs.Unforgotten.{forgets}
 use Rattle.sf_group_rows.specs.Fitting.{FitOf}
 use Rattle.sf_group_rows.specs.Begins.{HasLed, IsRefusedSpent}
-use Rattle.sf_wait.specs.Doing.{HasWaited, HasDone, OwesLoaded}
+use Rattle.sf_wait.specs.Doing.{HasWaited, HasDoneWith, OwesLoaded}
 use Rattle.sf_wait.specs.declared.doing.DoFault.{DoFault}
 use Rattle.sf_wait.specs.declared.doing.DoFault.TheVariants as fault
 use Rattle.sf_keys.specs.declared.doing.KeyAnswer.{KeyAnswer}
@@ -42,14 +42,14 @@ module _ {V : Type 0} (fits : FitOf V) (key_of : V → List ℕ) (k : ℕ) (key 
   MayLead c f = (n : ℕ) × (u : CallerValue V) × HasMissed n c u × HasLed u k f
 
   -- A letter of the key, as new as the asking: after some such askings the caller led and settled its call with a value that
-  -- the load answered, or joined and waited.
-  pub record HasLetter (answers : V → Type 0) (c d : CallerValue V) (l : LetterValue V) : Type 0 where
+  -- the load answered, and the load is gone; or it joined and waited, and the load comes back uncalled.
+  pub record HasLetter {F : Type 0} (answers : V → Type 0) (load : F) (c d : CallerValue V) (l : LetterValue V) (back : Option F) : Type 0 where
     pub group : d.group ≡ c.group
     pub number : d.number ≡ c.number
     pub missed : ℕ
     pub asking : CallerValue V
     pub before : HasMissed missed c asking
-    pub done : HasDone fits answers asking k d l
+    pub done : HasDoneWith fits answers asking k load d l back
     pub key_is : key_of l.value ≡ key
     pub fresh : IsFresh k c.seen d.seen l
 
@@ -61,9 +61,9 @@ module _ {V : Type 0} (fits : FitOf V) (key_of : V → List ℕ) (k : ℕ) (key 
     pub answered : answers v
     pub key_is : key_of v ≡ key
 
-  abbrev pub HasAnswered : (V → Type 0) → CallerValue V → ℕ → KeyAnswer V → Type 0
-  HasAnswered answers c rounds (answer.Letter d l) = HasLetter answers c d l
-  HasAnswered answers c rounds (answer.Alone d v) = IsAlone answers c rounds d v
+  abbrev pub HasAnswered : {F : Type 0} → (V → Type 0) → CallerValue V → F → ℕ → KeyAnswer V F → Type 0
+  HasAnswered answers c load rounds (answer.Letter d l back) = HasLetter answers load c d l back
+  HasAnswered answers c load rounds (answer.Alone d v) = IsAlone answers c rounds d v
 
   -- no generation is left, and the load comes back uncalled
   pub record IsSpentAsking {F : Type 0} (c d : CallerValue V) (load f : F) : Type 0 where

@@ -1,6 +1,6 @@
-//! What one run of the load path counts, and who gave its value.
+//! What one run of the load path counts, and where its value came from.
 
-/// Who gave a value.
+/// Where a value came from.
 #[derive(Clone, Copy, PartialEq, Eq)]
 pub enum Source {
     /// The peer that the picker named.

@@ -60,7 +60,7 @@ pub enum Answer {
 }
 
 impl Answer {
-    // The same answer once more; the fault for want of memory where the copy is refused.
+    // This answer once more; the fault for want of memory where the copy is refused.
     fn again(&self) -> Answer
         ensures { IsAgain self.now result }
     {

@@ -9,7 +9,7 @@ is_between low high c = nat_le low c && nat_le c high
 -- controls above 127, what turns the direction of a text, ends of lines, and numbers that are no characters
 abbrev pub is_misleading : ℕ → Bool
 is_misleading c =
-    is_between 0x80 0x9f c || (is_between 0x200e 0x200f c || (is_between 0x2028 0x202e c || (is_between 0x2066 0x2069 c || (c == 0xfeff || is_between 0xfffe 0xffff c))))
+    is_between 0x80 0x9f c || (c == 0x61c || (is_between 0x200e 0x200f c || (is_between 0x2028 0x202e c || (is_between 0x2066 0x2069 c || (c == 0xfeff || is_between 0xfffe 0xffff c)))))
 
 -- what is drawn for a character: the symbol of a control, the replacement character of what misleads, and else itself
 abbrev pub drawn_of : ℕ → ℕ

@@ -2,10 +2,9 @@
 
 mod axis;
 mod bars;
-mod choosing;
 mod drawing;
 mod labels;
+mod picture;
 mod stays;
-mod witnesses;
 
 pub use drawing::draw_race;

@@ -1,5 +1,5 @@
 -- orders of events that are legal and respect their times
-use Rattle.std.specs.Prelude.{◌≡◌, ◌≤◌, ℕ, Bool, List, ◌∷◌, ◌++◌, Option, Some, zip, Contains, IsPermutation}
+use Rattle.std.specs.Prelude.{◌≡◌, ◌≤◌, ℕ, Bool, List, ◌∷◌, ◌++◌, Option, Some, zip, length, Contains, IsPermutation}
 use Rattle.sf_history.specs.declared.event.Event.{Event}
 use Rattle.sf_history.specs.Legal.{IsLegal}
 use Rattle.sf_replay.specs.declared.record.Interval.{Interval}
@@ -13,6 +13,7 @@ RespectsTime ts = (p q : List (Option Interval)) (a b : Interval) → ts ≡ p +
 -- these events with these times are those events with those times, in an order that is a legal history and respects the times
 pub record IsLegalOrderOf {K V : Type 0} (eq : K → K → Bool) (es : List (Event K V)) (ts : List (Option Interval)) (ordered : List (Event K V)) (times : List (Option Interval)) : Type 0 where
   pub once : IsPermutation (zip es ts) (zip ordered times)
+  pub even : length ordered ≡ length times
   pub legal : IsLegal eq ordered
   pub in_time : RespectsTime times
 

@@ -76,6 +76,7 @@ pub(crate) fn in_order<K: Drop, V: Drop>(
     requires times { length times.now ≡ length history }
     ensures once { IfOk result (λ ordered.
         IsPermutation (zip history times.now) (zip ordered.0 ordered.1.items)) }
+    ensures even { IfOk result (λ ordered. length ordered.0 ≡ length ordered.1.items) }
 {
     let events = history.into_vec();
     let mut ranked = with_ranks(alloc, ranks, events, times)?;

@@ -20,7 +20,7 @@ use sf_words::{CallState, LeaderState};
 impl<V: Drop> World<V> {
     ghost use Rattle.sf_steps.specs.Running.{SameSizes, world_of};
 
-    /// Who joins: the second of a chan, or the caller itself.
+    /// The caller that joins: the second of a chan, or the caller itself.
     pub(crate) fn joiner(&self, caller: u32, second: Option<u32>) -> u32
         requires caller { caller ≤ self.now.callers }
         requires asks { (place : ℕ) × (before : AnyStep)

@@ -22,7 +22,7 @@ abbrev pub LooksHaveOwnPeeks : Type 0 → Type 0
 LooksHaveOwnPeeks V = (z : Setting) (s : List (Turn V)) → IsSchedule z s → (a k : ℕ) (c : CallId) → (world_after z.callers z.first s).stages a ≡ Questioning k c Look
     → (p rest : List (Turn V)) × (s ≡ p ++ turn.Step a ∷ rest) × ((world_after z.callers z.first p).stages a ≡ Questioning k c Peek) × IsLooking (world_after z.callers z.first (p ++ turn.Step a ∷ [])) rest a k c
 
--- a yes at the look was right at the peek, and a no is right at the look
+-- where the look says yes, the call was current at the peek; where it says no, the call is not current at the look
 abbrev pub YesAtThePeekNoAtTheLook : Type 0 → Type 0
 YesAtThePeekNoAtTheLook V = (z : Setting) (p rest : List (Turn V)) (a k : ℕ) (c : CallId) → IsSchedule z (p ++ turn.Step a ∷ rest)
     → (world_after z.callers z.first p).stages a ≡ Questioning k c Peek → (world_after z.callers z.first (p ++ turn.Step a ∷ [])).stages a ≡ Questioning k c Look

@@ -28,7 +28,7 @@ pub fn questions_are_answered_rightly<V>()
     ensures looks_have_peeks { LooksHavePeeks V }
 {}
 
-/// A look comes after a peek of the same question. A yes was right at that peek, and a no is right at the look.
+/// A look comes after a peek of the same question. Where it says yes, the call was current at that peek; where it says no, the call is not current at the look.
 pub fn looks_are_of_one_question<V>()
     ensures own_peeks { LooksHaveOwnPeeks V }
     ensures yes_and_no { YesAtThePeekNoAtTheLook V }
@@ -46,12 +46,12 @@ pub fn letters_are_answers<V>()
     ensures arrive { LettersArrive V }
 {}
 
-/// Who holds a ticket waits for a call that is not handed out, or has its letter.
+/// A caller that holds a ticket waits for a call that is not handed out, or has its letter.
 pub fn tickets_are_served<V>()
     ensures { TicketsAreServed V }
 {}
 
-/// Whom a leader owes letters is one list of waiting callers, shorter than the callers are many. Turns of others leave
+/// The callers to whom a leader owes letters are one list of waiting callers, shorter than the callers are many. Turns of others leave
 /// it as it is, and two callers that deliver at once deliver into different cells.
 pub fn leaders_have_lists<V>()
     ensures lists { LeadersHaveLists V }

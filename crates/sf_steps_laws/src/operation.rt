@@ -11,7 +11,7 @@ use sf_words::{KeyState, LeaderState};
 pub enum Op<V> {
     /// Ask for the value of a place's key: lead its new call, or join the open one.
     Ask { place: u32 },
-    /// The same with a second caller, which is the new call's own channel, or joins the open one.
+    /// Ask with a second caller, which is the new call's own channel, or joins the open one.
     Chan { second: u32, place: u32 },
     /// Settle the call that the caller leads.
     Settle { result: V },

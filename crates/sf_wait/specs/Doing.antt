@@ -22,9 +22,6 @@ module _ {V : Type 0} where
     pub begun : HasJoined c k ticket
     pub waited : IsReady fits ticket d l
 
-  abbrev pub HasDone : FitOf V → (V → Type 0) → CallerValue V → ℕ → CallerValue V → LetterValue V → Type 0
-  HasDone fits answers c k d l = HasLoaded fits answers c k d l ⊎ HasWaited fits c k d l
-
   -- it led and settled its call with a value that the load answered, and letters of it are owed still
   pub record OwesLoaded (answers : V → Type 0) (c : CallerValue V) (k : ℕ) (s : SettledValue V) : Type 0 where
     pub flight : FlightValue V

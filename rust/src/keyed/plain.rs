@@ -17,6 +17,13 @@ const SHARDS: usize = 16;
 /// A call can be held so often; in the schedule test by few, so that it plays what comes then.
 const HOLDERS: u64 = if cfg!(test) { 3 } else { (1 << 20) - 1 };
 
+/// So many ages there are for each call that is expected to be open, or down to half as many, so that
+/// few Forgets end the stamp of another key; within these bounds, and no fewer than the shards.
+const AGES_OF_CELL: usize = 16;
+const FEWEST_AGES: usize = 1 << 8;
+const MOST_AGES: usize = 1 << 20;
+
+/// No two of them lie in one line of memory.
 #[repr(align(128))]
 #[derive(Default)]
 struct Shard {
@@ -65,8 +72,8 @@ impl Handle {
     pub(crate) const NONE: Handle = Handle(None);
 
     pub(crate) fn open(cells: u32, _: [u64; 2]) -> Result<Self, Error> {
-        // So many for each call that is expected to be open, and no fewer than the shards.
-        let ages = (cells as usize * 16).next_power_of_two().clamp(1 << 8, 1 << 20);
+        let ages = cells as usize * AGES_OF_CELL;
+        let ages = (1 << ages.ilog2()).clamp(FEWEST_AGES, MOST_AGES);
         Ok(Handle(Some(Arc::new(Table {
             hash: RandomState::new(),
             shards: Default::default(),

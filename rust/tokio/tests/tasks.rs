@@ -103,7 +103,7 @@ fn deadlines_and_aborted_tasks() {
             "all calls are idle, and no value is kept"
         );
 
-        // A leader that is aborted ends its call, and who joined loads.
+        // A leader that is aborted ends its call, and the task that joined loads.
         let leader = tokio::spawn(group.get_or_load_async("k", std::future::pending()));
         until("the leader asks", || group.stats().loads == 2).await;
         let joined = tokio::spawn(group.get_or_load_async("k", async { Arc::new(8) }));

@@ -14,12 +14,12 @@ typedef char key[24];
 
 static char page[] = "<html></html>";
 
-static void *load(void *context, const uint8_t *key, size_t len, uint64_t *weight) {
+static int load(void *context, const uint8_t *key, size_t len, sflight_cache_loaded *loaded) {
     if (context) ++*(int *)context;
     (void)key;
     (void)len;
-    (void)weight;
-    return page;
+    loaded->value = page;
+    return SFLIGHT_CACHE_LOADED;
 }
 
 static double now(void) {
@@ -110,8 +110,43 @@ static void draw(key *drawn, int draws, int keys) {
     }
 }
 
-int main(void) {
+static void ratio(const key *trace, int gets, int values) {
+    int loads = 0;
+    sflight_cache *cache = cache_of((uint64_t)values, &loads);
+    for (int i = 0; i < gets; i++) get(cache, trace[i]);
+    sflight_cache_close(cache);
+    printf("%-22s %6d values: %.2f\n", "sflight_cache.h", values, 100 - 100.0 * loads / gets);
+}
+
+/* How many gets hit in caches for 1, 5 and 20 % of so many keys. */
+static void ratios(const key *trace, int gets, int keys) {
+    ratio(trace, gets, keys / 100);
+    ratio(trace, gets, keys / 20);
+    ratio(trace, gets, keys / 5);
+}
+
+static int by_name(const void *a, const void *b) { return strcmp(a, b); }
+
+/* It tells that of the trace in this file, which has a key a line. */
+static void ratios_of(const char *path) {
+    static key trace[TRACE], sorted[TRACE];
+    int gets = 0, keys = 0;
+    FILE *file = fopen(path, "r");
+    if (!file) abort();
+    while (gets < TRACE && fscanf(file, "%23s", trace[gets]) == 1) gets++;
+    fclose(file);
+    memcpy(sorted, trace, sizeof trace);
+    qsort(sorted, (size_t)gets, sizeof(key), by_name);
+    for (int i = 0; i < gets; i++) keys += i == 0 || strcmp(sorted[i], sorted[i - 1]) != 0;
+    const char *name = strrchr(path, '/');
+    printf("Hit ratio of %d gets over %d keys, %s: %%\n", gets, keys, name ? name + 1 : path);
+    ratios(trace, gets, keys);
+}
+
+int main(int count, char **words) {
     static key keys[TRACE];
+    for (int i = 1; i < count; i++) ratios_of(words[i]);
+    if (count > 1) return 0;
     puts("A hit: ns, all threads together, divided by their gets");
     for (int threads = 1; threads <= MOST; threads += MOST - 1) {
         name(keys[0], 1);
@@ -124,12 +159,6 @@ int main(void) {
     for (int threads = 1; threads <= MOST; threads += MOST - 1) measure("a miss", threads, keys, GETS, GETS);
     puts("Hit ratio of 1,000,000 gets over 100,000 keys by zipf: %");
     draw(keys, TRACE, TRACE_KEYS);
-    for (int values = 1000; values <= 20000; values *= values == 1000 ? 5 : 4) {
-        int loads = 0;
-        sflight_cache *cache = cache_of((uint64_t)values, &loads);
-        for (int i = 0; i < TRACE; i++) get(cache, keys[i]);
-            sflight_cache_close(cache);
-        printf("%-22s %6d values: %.2f\n", "sflight_cache.h", values, 100 - loads / 1e4);
-    }
+    ratios(keys, TRACE, TRACE_KEYS);
     return 0;
 }

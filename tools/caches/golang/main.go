@@ -8,6 +8,7 @@ import (
 	"fmt"
 	"math/rand"
 	"os"
+	"path/filepath"
 	"sort"
 	"strings"
 	"sync"
@@ -206,6 +207,14 @@ func make1(makers []maker, values int64) (all []cache) {
 }
 
 func main() {
+	if len(os.Args) > 2 && os.Args[1] == "write" {
+		writeTraces(os.Args[2])
+		return
+	}
+	if len(os.Args) > 1 && os.Args[1] == "traces" {
+		ratiosOf(os.Args[2:])
+		return
+	}
 	what := strings.Join(os.Args[1:], " ") + " "
 	is := func(part string) bool { return what == " " || strings.Contains(what, part+" ") }
 	quick := []maker{makeOurs, makeGroupcache, makeRistretto, makeLRU}
@@ -249,16 +258,87 @@ func main() {
 	}
 	if is("ratios") {
 		fmt.Println("Hit ratio of 1,000,000 gets over 100,000 keys by zipf: %")
-		trace := zipf(1, 100000, 1000000)
-		for _, part := range []int64{1000, 5000, 20000} {
-			for _, m := range []maker{makeOurs, makeGroupcache, makeRistretto, makeLRU, make2Q, makeARC} {
-				loads := 0
-				c := m(part, func(string) string { loads++; return page })
-				for _, key := range trace {
-					c.get(key)
-				}
-				fmt.Printf("%-22s %6d values: %.2f\n", c.name, part, 100-float64(loads)/1e4)
+		ratios(zipf(1, 100000, 1000000), 100000)
+	}
+}
+
+// ratios tells how many gets hit in caches for 1, 5 and 20 % of so many keys.
+func ratios(trace []string, keys int) {
+	for _, percent := range []int{1, 5, 20} {
+		values := int64(keys * percent / 100)
+		for _, m := range []maker{makeOurs, makeGroupcache, makeRistretto, makeLRU, make2Q, makeARC} {
+			loads := 0
+			c := m(values, func(string) string { loads++; return page })
+			for _, key := range trace {
+				c.get(key)
 			}
+			fmt.Printf("%-22s %6d values: %.2f\n", c.name, values, 100-100*float64(loads)/float64(len(trace)))
 		}
+	}
+}
+
+// ratiosOf tells it of the traces in these files, which have a key a line.
+func ratiosOf(paths []string) {
+	for _, path := range paths {
+		text, err := os.ReadFile(path)
+		check(err)
+		trace := strings.Fields(string(text))
+		keys := map[string]bool{}
+		for _, key := range trace {
+			keys[key] = true
+		}
+		fmt.Printf("Hit ratio of %d gets over %d keys, %s: %%\n", len(trace), len(keys), filepath.Base(path))
+		ratios(trace, len(keys))
+	}
+}
+
+// writeTraces writes traces of the kinds by which caches are judged into the folder, each of 1,000,000 gets.
+func writeTraces(folder string) {
+	const gets, ranks = 1000000, 100000
+	for name, next := range map[string]func(r *rand.Rand, z *rand.Zipf) func(n int) uint64{
+		// Every 1,000 gets a key is away for good, chosen as the gets are, and a new one is asked for as often.
+		"drift": func(r *rand.Rand, z *rand.Zipf) func(int) uint64 {
+			fresh := uint64(ranks)
+			of := map[uint64]uint64{}
+			return func(n int) uint64 {
+				if n%1000 == 0 {
+					of[z.Uint64()] = fresh
+					fresh++
+				}
+				rank := z.Uint64()
+				if key, ok := of[rank]; ok {
+					return key
+				}
+				return rank
+			}
+		},
+		// After each 40,000 gets by zipf, 10,000 keys in turn that nobody asks for again.
+		"scans": func(r *rand.Rand, z *rand.Zipf) func(int) uint64 {
+			return func(n int) uint64 {
+				if n%50000 >= 40000 {
+					return uint64(ranks + n)
+				}
+				return z.Uint64()
+			}
+		},
+		// One half of the gets by zipf, and one in a loop over 20,000 other keys.
+		"loop": func(r *rand.Rand, z *rand.Zipf) func(int) uint64 {
+			at := 0
+			return func(int) uint64 {
+				if r.Intn(2) == 0 {
+					return z.Uint64()
+				}
+				at++
+				return uint64(ranks + at%20000)
+			}
+		},
+	} {
+		r := rand.New(rand.NewSource(1))
+		key := next(r, rand.NewZipf(r, 1.01, 1, ranks-1))
+		var text strings.Builder
+		for n := 0; n < gets; n++ {
+			text.WriteString(keyOf(key(n)) + "\n")
+		}
+		check(os.WriteFile(filepath.Join(folder, name), []byte(text.String()), 0o644))
 	}
 }

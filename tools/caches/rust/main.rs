@@ -19,7 +19,7 @@ trait Loads: Sync {
     fn get(&self, key: &str, load: &dyn Fn() -> String) -> usize;
 }
 
-struct Ours(Cache<String>);
+struct Ours(Cache<String, String>);
 
 impl Loads for Ours {
     fn name(&self) -> &str {
@@ -31,8 +31,8 @@ impl Loads for Ours {
     }
 }
 
-/// The same cache, by reading in place of counting.
-struct Read(Cache<String>);
+/// Our cache with `read`, which looks at a value in the cache and counts no user of it.
+struct Read(Cache<String, String>);
 
 impl Loads for Read {
     fn name(&self) -> &str {
@@ -164,6 +164,13 @@ fn compare(what: &str, values: usize, lists: &[Vec<String>], warm: &[String]) {
 }
 
 fn main() {
+    let files: Vec<String> = std::env::args().skip(1).collect();
+    for file in &files {
+        ratios_of(file);
+    }
+    if !files.is_empty() {
+        return;
+    }
     println!("A hit: ns, all threads together, divided by their gets");
     for threads in [1, 4] {
         let one = vec![vec![key_of(1)]; threads];
@@ -179,18 +186,33 @@ fn main() {
         compare("a miss", 4000, &lists, &[]);
     }
     println!("Hit ratio of 1,000,000 gets over 100,000 keys by zipf: %");
-    let trace = zipf(1, 100_000, 1_000_000);
-    for values in [1000, 5000, 20_000] {
+    ratios(&zipf(1, 100_000, 1_000_000), 100_000);
+}
+
+/// How many gets hit in caches for 1, 5 and 20 % of so many keys.
+fn ratios(trace: &[String], keys: usize) {
+    for percent in [1, 5, 20] {
+        let values = keys * percent / 100;
         for cache in make(values) {
             let loads = AtomicU64::new(0);
-            for key in &trace {
+            for key in trace {
                 cache.get(key, &|| {
                     loads.fetch_add(1, Relaxed);
                     PAGE.to_string()
                 });
             }
-            let ratio = 100.0 - loads.into_inner() as f64 / 1e4;
+            let ratio = 100.0 - 100.0 * loads.into_inner() as f64 / trace.len() as f64;
             println!("{:<22} {values:6} values: {ratio:.2}", cache.name());
         }
     }
+}
+
+/// It tells that of the trace in this file, which has a key a line.
+fn ratios_of(path: &str) {
+    let text = std::fs::read_to_string(path).expect("a trace");
+    let trace: Vec<String> = text.lines().map(String::from).collect();
+    let keys = trace.iter().collect::<std::collections::HashSet<_>>().len();
+    let name = path.rsplit('/').next().unwrap();
+    println!("Hit ratio of {} gets over {keys} keys, {name}: %", trace.len());
+    ratios(&trace, keys);
 }

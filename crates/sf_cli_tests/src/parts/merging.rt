@@ -261,7 +261,7 @@ fn push(rt: &impl Abort, history: &mut History<u32, ()>, line: &str) {
     assert!(rt; pushed.is_ok(), "no memory");
 }
 
-// The same history with two events in place of its last one.
+// A history with two events in place of its last one.
 fn with_others(
     rt: &impl Abort,
     history: History<u32, ()>,

@@ -6,7 +6,7 @@ use crate::tokens::wide::MaybeCall;
 use sf_group_steps::WordSeat;
 use sf_history::CallId;
 
-/// Who sits at the table: a seat, its caller's number, and the generation that the caller's next asking uses.
+/// What a caller has at the table: a seat, its caller's number, and the generation that the caller's next asking uses.
 #[derive(Drop)]
 pub(crate) struct Seated<V> {
     pub(crate) seat: WordSeat<V>,
@@ -14,7 +14,7 @@ pub(crate) struct Seated<V> {
     pub(crate) next: u64,
 }
 
-/// Who leads a call of a place, or has settled it, and the member that has its own channel.
+/// The caller that leads a call of a place, or has settled it, and the member that has its own channel.
 #[derive(Drop)]
 pub(crate) struct Leader<V> {
     pub(crate) seated: Seated<V>,

@@ -75,7 +75,7 @@ impl<'a> Asker<'a> {
             item(key)
         };
         match do_key(rt, group, places, caller, key, rounds, load) {
-            Ok(KeyAnswer::Letter(caller, letter)) => {
+            Ok(KeyAnswer::Letter(caller, letter, _)) => {
                 let size = size_in(&letter, key);
                 let asker = Asker {
                     group,

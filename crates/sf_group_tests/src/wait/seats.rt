@@ -161,7 +161,7 @@ impl<'a> Seat<'a> {
         }
     }
 
-    /// Who waits for a letter of the place.
+    /// A caller that waits for a letter of the place.
     pub fn waiting(group: &'a Group<Value>, ticket: Ticket<Value>, place: u32) -> Seat<'a>
         requires ticket { ticket.group ≡ group.now }
         requires place { IsPlaceOf group.now place }

@@ -17,27 +17,17 @@ a pause
 a settle 7: 1 settled 1.1 with 7 joiners=0 shared=false
 b wait: 2 got 1.1 with 7 joiners=0 shared=false";
 
-#[test]
-fn forms_of_one_caller(rt: HostRuntime) -> Result<(), Fail> {
-    let scene = "\
+const ALONE: &str = "\
 a ask: leads 1.1
 a settle 7: 1 settled 1.1 with 7 joiners=0 shared=false
 a forget: forgot nothing";
-    play_new(&rt, rt.alloc(), 1, 1, scene)
-}
 
-#[test]
-fn forms_of_a_channel(rt: HostRuntime) -> Result<(), Fail> {
-    let scene = "\
+const CHANNEL: &str = "\
 a settle 7: 1 settled 1.1 with 7 joiners=0 shared=false
 b wait: 2 got 1.1 with 7 joiners=0 shared=false";
-    play_chan(&rt, rt.alloc(), scene)
-}
 
 // A copy is owed to caller 2, which never takes it.
-#[test]
-fn held_delivery_goes_on(rt: HostRuntime) -> Result<(), Fail> {
-    let scene = "\
+const HELD_DELIVERY: &str = "\
 a ask: leads 1.1
 a await done
 a settle 100 refused 9: owes letters
@@ -46,28 +36,45 @@ b await led
 b ask: joins 1.1
 b leave
 b tell done";
-    play_new(&rt, rt.alloc(), 2, 1, scene)
-}
 
 // After its last generation the caller comes back, and its load.
-#[test]
-fn lone_do_loads_once(rt: HostRuntime) -> Result<(), Fail> {
-    let scene = "\
+const LONE_DO: &str = "\
 a do 7: 1 loaded 1.4294967295 with 7 joiners=0 shared=false
 a loads: 1
 a do 8: 1 is spent, and its load answers 8";
-    play_new(&rt, rt.alloc(), 1, 4_294_967_295, scene)
-}
 
-#[test]
-fn do_is_held_where_a_copy_is_refused(rt: HostRuntime) -> Result<(), Fail> {
-    let scene = "\
+const HELD_DO: &str = "\
 a do 100 refused 9 once done: owes letters
 b await led
 b ask: joins 1.1
 b leave
 b tell done";
-    play_new(&rt, rt.alloc(), 2, 1, scene)
+
+// Caller 2 rests until the delivery goes on.
+const DELIVERY_GOES_ON: &str = "\
+a ask: leads 1.1
+a await joined
+a pause
+a settle 7 refused 1: owes letters
+a pause
+a go: 1 delivered 1.1 with 7 joiners=1 shared=true
+b await led
+b ask: joins 1.1
+b wait: 2 got 1.1 with 7 joiners=1 shared=true";
+
+#[test]
+fn forms_of_one_caller(rt: HostRuntime) -> Result<(), Fail> {
+    play_new(&rt, rt.alloc(), 1, 1, ALONE)?;
+    play_new(&rt, rt.alloc(), 1, 4_294_967_295, LONE_DO)?;
+    play_chan(&rt, rt.alloc(), CHANNEL)
+}
+
+#[test]
+fn forms_of_two_callers(rt: HostRuntime) -> Result<(), Fail> {
+    for scene in [HELD_DELIVERY, HELD_DO, DELIVERY_GOES_ON] {
+        play_new(&rt, rt.alloc(), 2, 1, scene)?;
+    }
+    Ok(())
 }
 
 #[test]
@@ -107,19 +114,4 @@ fn letters_after_a_rest_wake_nobody(rt: HostRuntime) -> Result<(), Fail> {
     play(&stage, Seat::leading(&group, flight, 1), second, REST);
     deliver_often(&stage, leader, joiner);
     Ok(())
-}
-
-#[test]
-fn delivery_that_goes_on_wakes(rt: HostRuntime) -> Result<(), Fail> {
-    let scene = "\
-a ask: leads 1.1
-a await joined
-a pause
-a settle 7 refused 1: owes letters
-a pause
-a go: 1 delivered 1.1 with 7 joiners=1 shared=true
-b await led
-b ask: joins 1.1
-b wait: 2 got 1.1 with 7 joiners=1 shared=true";
-    play_new(&rt, rt.alloc(), 2, 1, scene)
 }

@@ -2,16 +2,30 @@
 //! touch.
 
 use crate::races::axis::{Axis, LEFT};
-use crate::races::choosing::{Chosen, time_at};
 use crate::races::labels::{label, time_text};
-use crate::races::witnesses::{caller_of, key_of};
+use crate::races::picture::EDGE_OF_TEXTS;
 use crate::svg::text_width;
 use sf_history::Memory;
 use sf_replay::{Interval, TextEvent};
+use sf_text::Text;
+use sf_verdicts::{caller_of, key_of, time_at};
 use std::alloc::Global;
 
 // What lies between what stands in one row.
-const BETWEEN: usize = 14;
+const BETWEEN: usize = 20;
+
+/// The events that are drawn.
+#[derive(Drop)]
+pub(crate) struct Chosen<'a> {
+    /// The key of the witness, if an event says it.
+    pub(crate) key: Option<&'a Text>,
+    /// The places of those that the witness names.
+    pub(crate) named: Vec<usize>,
+    /// The places of all, in the order of the record.
+    pub(crate) places: Vec<usize>,
+    /// How many more there are of the key.
+    pub(crate) left_out: u64,
+}
 
 /// How a bar looks.
 #[derive(Clone, Copy, PartialEq, Eq)]
@@ -41,10 +55,20 @@ pub(crate) struct Bar {
 }
 
 impl Bar {
+    // The width of its texts.
+    fn width(&self) -> usize {
+        text_width(self.label.as_str()).max(text_width(self.when.as_str()))
+    }
+
+    /// Where its texts begin: where the bar does, or left of it where they would not fit the page.
+    pub(crate) fn texts(&self) -> usize {
+        let last = EDGE_OF_TEXTS.saturating_sub(self.width()).max(LEFT);
+        self.left.min(last)
+    }
+
     /// Where the bar and its texts end.
     pub(crate) fn edge(&self) -> usize {
-        let text = text_width(self.label.as_str()).max(text_width(self.when.as_str()));
-        self.left.saturating_add(text).max(self.right)
+        self.texts().saturating_add(self.width()).max(self.right)
     }
 }
 
@@ -104,7 +128,6 @@ fn bar_of_event(
     alloc: Global,
     axis: &Axis,
     chosen: &Chosen<'_>,
-    named: &[usize],
     order: Order,
     event: &TextEvent,
     time: Option<Interval>,
@@ -124,11 +147,11 @@ fn bar_of_event(
         right,
         row: 0,
         look: Look {
-            is_named: named.contains(&order.place),
+            is_named: chosen.named.contains(&order.place),
             is_timed: time.is_some(),
         },
         label: label(alloc, order.place, event, other_key)?,
-        when: time_text(alloc, time, axis.first().unwrap_or(0))?,
+        when: time_text(alloc, time, axis)?,
     })
 }
 
@@ -137,7 +160,6 @@ pub(crate) fn bars(
     alloc: Global,
     axis: &Axis,
     chosen: &Chosen<'_>,
-    named: &[usize],
     events: &[TextEvent],
     times: &[Option<Interval>],
 ) -> Result<Vec<Bar>, Memory> {
@@ -153,8 +175,8 @@ pub(crate) fn bars(
         }
         if let Some(event) = events.get(order.place) {
             let time = time_at(times, order.place);
-            let mut bar = bar_of_event(alloc, axis, chosen, named, order, event, time)?;
-            let row = free_row(&mut edges, bar.left, bar.edge())?;
+            let mut bar = bar_of_event(alloc, axis, chosen, order, event, time)?;
+            let row = free_row(&mut edges, bar.texts(), bar.edge())?;
             bar.row = above.saturating_add(row);
             bars.push(bar)?;
         }

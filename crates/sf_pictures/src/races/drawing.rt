@@ -4,15 +4,15 @@ ghost use Rattle.std.specs.Prelude.{IfOk, string_bytes};
 ghost use Rattle.sf_pictures.specs.Pictures.{IsPictureOf};
 
 use crate::races::axis::{Axis, LEFT};
-use crate::races::bars::{Bar, Look, bars};
-use crate::races::choosing::{Chosen, choose};
+use crate::races::bars::{Bar, Chosen, Look, bars};
 use crate::races::labels::key_text;
+use crate::races::picture::{EDGE, EDGE_OF_TEXTS, PAGE};
 use crate::races::stays::{Stay, stays};
-use crate::races::witnesses::{named, place};
 use crate::svg::{begin, end, path, rect, text, text_width};
 use sf_history::Memory;
 use sf_replay::{Interval, TextEvent};
 use sf_replay_timed::Witness;
+use sf_verdicts::{explain_witness, place};
 use std::alloc::Global;
 
 // How the marks look; no colour says anything.
@@ -29,16 +29,15 @@ text { font: 13px monospace; paint-order: stroke; stroke: #fff; stroke-width: 3;
 .end { stroke: #999; stroke-dasharray: 2 4; }
 .stay, .moment { fill: none; stroke: #000; stroke-width: 5; }
 .moment { stroke-dasharray: 3 3; }
+.fold { fill: none; stroke: #000; stroke-width: 1.5; }
 .time, .arrow { fill: none; stroke: #000; marker-end: url(#head); }
 .arrow { stroke-width: 2; }
 </style>
 <defs><marker id=\"head\" viewBox=\"0 0 10 10\" refX=\"9\" refY=\"5\" markerWidth=\"8\" markerHeight=\"8\" markerUnits=\"userSpaceOnUse\" orient=\"auto\"><path d=\"M0 0L10 5L0 10z\"/></marker></defs>
 ";
 
-// Where texts begin that stand left of all bars.
-const EDGE: usize = 16;
 // The least width, for the legend.
-const LEAST: usize = 560;
+const LEAST: usize = 620;
 // The height of a line of text.
 const LINE: usize = 20;
 // The height of the line of a call that keeps others out.
@@ -49,6 +48,10 @@ const ROW: usize = 54;
 const BAR: usize = 12;
 // The width of the bar of an event that began and ended at one moment.
 const POINT: usize = 4;
+// Where arrows go up and down: between the callers and the first moment.
+const GUTTER: usize = 126;
+// Where arrows go to the left and to the right in a row: below its times.
+const BELOW: usize = 51;
 
 // What a picture shows.
 #[derive(Drop)]
@@ -72,8 +75,8 @@ struct Picture {
 /// The events that no order explains, as SVG: a lane per caller, time to the right, a bar per event from its beginning to its end.
 /// Those that the witness names are filled. `verdict` stands above the picture.
 ///
-/// At most 24 events are drawn, those around the witness, and a line says how many more the key has. What stands below the
-/// verdict is tested, and no clause speaks of it.
+/// Drawn are the events that explain the verdict (`explain_witness`), and a line says how many more the key has. The picture is at
+/// most 900 wide. What stands below the verdict is tested, and no clause speaks of it.
 pub fn draw_race(
     alloc: Global,
     verdict: &str,
@@ -86,7 +89,20 @@ pub fn draw_race(
     let picture = lay_out(alloc, verdict, witness, events, times)?;
     let marks = marks(alloc, &picture)?;
     let size = (picture.width, height(&picture));
-    put_together(alloc, size, STYLE, verdict, marks.as_str())
+    let style = style_of(alloc, verdict)?;
+    put_together(alloc, size, style.as_str(), verdict, marks.as_str())
+}
+
+// How the marks look, where a verdict that is wider than the page stands in smaller letters. A letter is three fifths as wide as it is
+// high.
+fn style_of(alloc: Global, verdict: &str) -> Result<String, Memory> {
+    let letters = text_width(verdict) / 8;
+    let room = PAGE - 2 * EDGE;
+    if letters <= room / 8 {
+        return Ok(String::from_str(alloc, STYLE)?);
+    }
+    let high = (room * 5 / 3).checked_div(letters).unwrap_or(6).max(6);
+    Ok(format!(in alloc; "<style>.title {{ font-size: {high}px; }}</style>\n{STYLE}")?)
 }
 
 // A picture of this size with these marks, and the verdict above them.
@@ -129,6 +145,28 @@ fn marks(alloc: Global, picture: &Picture) -> Result<String, Memory> {
     Ok(svg)
 }
 
+// The events that are drawn.
+fn choose<'a>(
+    alloc: Global,
+    witness: Witness,
+    events: &'a [TextEvent],
+    times: &[Option<Interval>],
+) -> Result<Chosen<'a>, Memory> {
+    let explained = explain_witness(alloc, witness, events, times)?;
+    let mut places = explained.others;
+    for place in explained.named.iter() {
+        places.push(*place)?;
+    }
+    places.sort()?;
+    places.dedup();
+    Ok(Chosen {
+        key: explained.key,
+        named: explained.named,
+        places,
+        left_out: explained.left_out,
+    })
+}
+
 // The picture of a witness, laid out.
 fn lay_out(
     alloc: Global,
@@ -137,12 +175,11 @@ fn lay_out(
     events: &[TextEvent],
     times: &[Option<Interval>],
 ) -> Result<Picture, Memory> {
-    let named = named(alloc, witness)?;
-    let chosen = choose(alloc, named.as_slice(), events, times)?;
+    let chosen = choose(alloc, witness, events, times)?;
     let axis = Axis::new(alloc, chosen.places.as_slice(), times)?;
-    let notes = notes(alloc, &chosen, axis.first())?;
+    let notes = notes(alloc, &chosen, &axis)?;
     let stays = stays(alloc, witness, &axis, events, times)?;
-    let bars = bars(alloc, &axis, &chosen, named.as_slice(), events, times)?;
+    let bars = bars(alloc, &axis, &chosen, events, times)?;
     let reversed = reversed(witness, bars.as_slice());
     let top = notes.len().saturating_mul(LINE).saturating_add(LINE * 2);
     let lanes = stays.len().saturating_mul(STAY).saturating_add(top);
@@ -152,7 +189,7 @@ fn lay_out(
     };
     let bottom = rows.saturating_mul(ROW).saturating_add(lanes);
     let edge = edge_of_bars(stays.as_slice(), bars.as_slice(), &axis);
-    let width = edge.max(edge_of_head(verdict, notes.as_slice()));
+    let width = edge.max(edge_of_head(verdict, notes.as_slice())).min(PAGE);
     Ok(Picture {
         notes,
         stays,
@@ -167,16 +204,20 @@ fn lay_out(
 }
 
 // The lines between the verdict and the marks.
-fn notes(alloc: Global, chosen: &Chosen<'_>, first: Option<u64>) -> Result<Vec<String>, Memory> {
+fn notes(alloc: Global, chosen: &Chosen<'_>, axis: &Axis) -> Result<Vec<String>, Memory> {
     let mut notes = Vec::new(alloc);
     if let Some(key) = chosen.key {
         let key = key_text(alloc, key)?;
         notes.push(format!(in alloc; "key {key}")?)?;
     }
-    if let Some(first) = first {
+    if let Some(first) = axis.first() {
+        let unit = axis.unit().name();
         notes.push(format!(in alloc;
-            "times in nanoseconds, counted from {first}; distances are not to scale"
+            "times in {unit}, counted from {first} ns; distances are not to scale"
         )?)?;
+    }
+    if axis.folds.len() > 0 {
+        notes.push(format!(in alloc; "// below: time in which nothing of this happens")?)?;
     }
     if chosen.left_out > 0 {
         let left_out = chosen.left_out;
@@ -215,12 +256,18 @@ fn edge_of_head(verdict: &str, notes: &[String]) -> usize {
 fn edge_of_bars(stays: &[Stay], bars: &[Bar], axis: &Axis) -> usize {
     let mut edge = axis.right().saturating_add(EDGE).max(LEAST);
     for stay in stays {
-        edge = edge.max(text_width(stay.says.as_str()).saturating_add(stay.left));
+        edge = edge.max(text_width(stay.says.as_str()).saturating_add(stay_text(stay)));
     }
     for bar in bars {
         edge = edge.max(bar.edge());
     }
     edge.saturating_add(EDGE)
+}
+
+// Where the text of a stay begins.
+fn stay_text(stay: &Stay) -> usize {
+    let last = EDGE_OF_TEXTS.saturating_sub(text_width(stay.says.as_str()));
+    stay.left.min(last)
 }
 
 // The upper edge of the legend.
@@ -256,7 +303,19 @@ fn draw_lanes(alloc: Global, svg: &mut String, picture: &Picture) -> Result<(), 
     let bottom = picture.bottom.saturating_add(8);
     let way = format!(in alloc; "M{LEFT} {bottom}H{edge}")?;
     path(svg, "time", way.as_str())?;
+    draw_folds(alloc, svg, picture, bottom)?;
     text(svg, "note", EDGE, bottom.saturating_add(5), "time")
+}
+
+// Two strokes through the line of time where it is folded.
+fn draw_folds(alloc: Global, svg: &mut String, picture: &Picture, y: usize) -> Result<(), Memory> {
+    let (high, low) = (y.saturating_sub(6), y.saturating_add(6));
+    for middle in picture.axis.folds.iter() {
+        let (left, right) = (middle.saturating_sub(5), middle.saturating_add(5));
+        let way = format!(in alloc; "M{left} {low}L{middle} {high}M{middle} {low}L{right} {high}")?;
+        path(svg, "fold", way.as_str())?;
+    }
+    Ok(())
 }
 
 // A line down from where each event that the witness names begins and ends.
@@ -291,7 +350,7 @@ fn draw_stay(
     text(
         svg,
         "note",
-        left,
+        stay_text(stay),
         top.saturating_add(14),
         stay.says.as_str(),
     )?;
@@ -337,20 +396,30 @@ fn draw_bar(svg: &mut String, picture: &Picture, bar: &Bar) -> Result<(), Memory
     text(
         svg,
         says,
-        bar.left,
+        bar.texts(),
         top.saturating_add(15),
         bar.label.as_str(),
     )?;
     text(
         svg,
         "when",
-        bar.left,
+        bar.texts(),
         top.saturating_add(46),
         bar.when.as_str(),
     )
 }
 
-// The arrow from the event that has to come first to the one that has to follow it.
+// Where an arrow goes up and down beside a bar: left of its texts, and right of those before it.
+fn beside(bar: &Bar) -> usize {
+    bar.texts().saturating_sub(8)
+}
+
+// Where an arrow goes to the left and to the right below a bar: between its time and the next row.
+fn below(picture: &Picture, bar: &Bar) -> usize {
+    row_top(picture, bar.row).saturating_add(BELOW)
+}
+
+// The arrow from the event that has to come first to the one that has to follow it. It goes where no labels are.
 fn draw_reversed(alloc: Global, svg: &mut String, picture: &Picture) -> Result<(), Memory> {
     let Some((first, second)) = picture.reversed else {
         return Ok(());
@@ -358,10 +427,25 @@ fn draw_reversed(alloc: Global, svg: &mut String, picture: &Picture) -> Result<(
     let (Some(first), Some(second)) = (picture.bars.get(first), picture.bars.get(second)) else {
         return Ok(());
     };
-    let (from, to) = (first.left, second.right);
-    let (high, low) = (middle(picture, first), middle(picture, second));
-    let way = format!(in alloc; "M{from} {high}L{to} {low}")?;
+    let way = way_between(alloc, picture, first, second)?;
     path(svg, "arrow", way.as_str())
+}
+
+// The way from the left edge of a bar to that of another one.
+fn way_between(
+    alloc: Global,
+    picture: &Picture,
+    first: &Bar,
+    second: &Bar,
+) -> Result<String, Memory> {
+    let (from, to) = (first.left, second.left);
+    let (out, into) = (beside(first), beside(second));
+    let (begin, end) = (middle(picture, first), middle(picture, second));
+    let (leaves, enters) = (below(picture, first), below(picture, second));
+    if first.row == second.row {
+        return Ok(format!(in alloc; "M{from} {begin}H{out}V{leaves}H{into}V{end}H{to}")?);
+    }
+    Ok(format!(in alloc; "M{from} {begin}H{out}V{leaves}H{GUTTER}V{enters}H{into}V{end}H{to}")?)
 }
 
 // A line of the legend.

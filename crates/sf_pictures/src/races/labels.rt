@@ -1,5 +1,6 @@
 //! What stands at the bar of an event.
 
+use crate::races::axis::Axis;
 use crate::svg::cut;
 use sf_history::{CallId, Event, Memory};
 use sf_replay::{Interval, TextEvent};
@@ -81,18 +82,18 @@ pub(crate) fn label(
     })
 }
 
-/// The time of an event, counted from the first moment of the picture.
+/// The time of an event, counted from the first moment of the picture, in its unit.
 pub(crate) fn time_text(
     alloc: Global,
     time: Option<Interval>,
-    first: u64,
+    axis: &Axis,
 ) -> Result<String, Memory> {
-    Ok(match time {
-        Some(time) => {
-            let from = time.from.saturating_sub(first);
-            let to = time.to.saturating_sub(first);
-            format!(in alloc; "{from} to {to}")?
-        }
-        None => format!(in alloc; "at any moment")?,
-    })
+    let Some(time) = time else {
+        return Ok(format!(in alloc; "at any moment")?);
+    };
+    let first = axis.first().unwrap_or(0);
+    let unit = axis.unit();
+    let from = unit.text(alloc, time.from.saturating_sub(first))?;
+    let to = unit.text(alloc, time.to.saturating_sub(first))?;
+    Ok(format!(in alloc; "{from} to {to}")?)
 }

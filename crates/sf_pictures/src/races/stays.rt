@@ -1,11 +1,10 @@
 //! The calls of a witness that keep others of their key out, and for how long.
 
 use crate::races::axis::{Axis, LEFT};
-use crate::races::choosing::time_at;
-use crate::races::witnesses::{call_of, place};
 use sf_history::{CallId, Memory};
 use sf_replay::{Interval, TextEvent};
 use sf_replay_timed::Witness;
+use sf_verdicts::{call_of, place, time_at};
 use std::alloc::Global;
 
 /// A call that has to be there from one moment to another.

@@ -23,6 +23,7 @@ fn drawn(character: char) -> char
         '\u{7f}' => '\u{2421}',
         // More controls, what turns the direction of a text, ends of lines, and numbers that are no characters.
         '\u{80}'..='\u{9f}'
+        | '\u{61c}'
         | '\u{200e}'
         | '\u{200f}'
         | '\u{2028}'..='\u{202e}'

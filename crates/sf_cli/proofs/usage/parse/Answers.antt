@@ -1,10 +1,10 @@
 -- a name that no subcommand has is no engine's, and no drive's
-use Rattle.std.proofs.Common.{rules, arith, ◌≡◌, ◌∙◌, ℕ, List, Some, Result, Err, codes, drop, map, slice_get, slice_index, slice_range, take_all, length, string_bytes, subst, sym, [], ◌∷◌, ◌-◌, ap, refl}
+use Rattle.std.proofs.Common.{rules, arith, ◌≡◌, ◌∙◌, ℕ, List, Some, Result, Err, codes, drop, map, slice_get, slice_index, slice_range, take_all, length, string_bytes, subst, sym, [], ◌∷◌, ◌-◌, ◌<◌, ap, refl}
 use Rattle.clap.specs.Words.{fault_of}
 use Rattle.sf_cli_drive.specs.Words.{IsAskedLine, drive_app}
 use Rattle.sf_cli_engines.specs.Engines.{name_of, shown_by}
 use Rattle.sf_cli_engines.specs.declared.engine.Engine as engines
-use Rattle.sf_cli_engines.specs.declared.engine.Engine.TheVariants.{Run, Steps, Check, Merge}
+use Rattle.sf_cli_engines.specs.declared.engine.Engine.TheVariants.{Run, Steps, Check, CheckLogs, Merge}
 use Rattle.sf_cli.specs.declared.table.Work.TheVariants.{Engine, Drive}
 use Rattle.sf_cli.specs.declared.usage.Subcommand.{Subcommand}
 use Rattle.sf_cli.specs.declared.usage.Usage.{Usage}
@@ -36,6 +36,7 @@ no_drive : (e : engines.Engine) → name_of e ≡ codes "drive" → ⊥
 no_drive (Run history) is = let heads : 114 ≡ 100 = ap (λ name. slice_index name 0) is in omega (arith, heads)
 no_drive (Steps shown) is = let heads : 115 ≡ 100 = ap (λ name. slice_index name 0) is in omega (arith, heads)
 no_drive (Check judged) is = let heads : 99 ≡ 100 = ap (λ name. slice_index name 0) is in omega (arith, heads)
+no_drive (CheckLogs judged) is = let heads : 99 ≡ 100 = ap (λ name. slice_index name 0) is in omega (arith, heads)
 no_drive Merge is = let heads : 109 ≡ 100 = ap (λ name. slice_index name 0) is in omega (arith, heads)
 
 -- the second word, as it is asked for and as it was found
@@ -76,4 +77,24 @@ returns-in-None-showing c =
       λ e asks. c.in-None-showing.ensures.unknown e (second_word words (name_of c.in-Some-Engine.engine) (name_of e) (options_of (shown_by e)) name asks)
           (own ∙ later_words words (name_of e) (options_of (shown_by e)) asks),
       λ names. absurd (no_drive c.in-Some-Engine.engine (search (rules, names, name))),
+    )
+
+-- words that ask for an engine have a second one
+second_of : (words : List (List ℕ)) (name : List ℕ) (options : List (List ℕ)) → drop 1 words ≡ name ∷ options → slice_get words 1 ≡ Some name
+second_of [] name options asks = cc
+second_of (first ∷ []) name options asks = cc
+second_of (first ∷ second ∷ more) name options asks = cc
+
+-- fewer words have none
+no_second : {X Y : Type 0} (f : X → Y) (xs : List X) (y : Y) → length xs < 2 → slice_get (map f xs) 1 ≡ Some y → ⊥
+no_second f [] y few is = cc
+no_second f (x ∷ []) y few is = cc
+no_second f (x ∷ z ∷ xs) y few is = omega (arith, few)
+
+pub returns-in_default : goal.returns-in_default
+returns-in_default c =
+    let words = map string_bytes c.args.words.now in
+    let few : length c.args.words.now < 2 = search (rules, arith) in (
+      λ e asks. no_second string_bytes c.args.words.now (name_of e) few (second_of words (name_of e) (options_of (shown_by e)) asks),
+      λ names. absurd (no_second string_bytes c.args.words.now (codes "drive") few names),
     )

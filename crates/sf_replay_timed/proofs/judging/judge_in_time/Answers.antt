@@ -7,6 +7,7 @@ pub returns-then-respects_time : goal.returns-then-respects_time
 returns-then-respects_time g c =
     record {
       once = c.in_ok-history.ensures.once;
+      even = c.in_ok-history.ensures.even;
       legal = c.verdict_on.ensures.legal.0 c.in-Legal.is;
       in_time = subst RespectsTime c.as_slice-in-Legal.ensures.value (c.respects_time.ensures c.if-respects_time.true);
     }

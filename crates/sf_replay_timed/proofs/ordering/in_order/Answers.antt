@@ -1,4 +1,5 @@
-use Rattle.std.proofs.Common.{◌≡◌, ◌∙◌, List, Option, IsPermutation, map, zip, sym, subst}
+use Rattle.std.proofs.Common.{◌≡◌, ◌∙◌, List, Option, IsPermutation, length, map, zip, sym, subst}
+use Rattle.std.proofs.lemmas.List.{length-map}
 use Rattle.std.proofs.lemmas.List.Sorted.{IsPermutation-map}
 use Rattle.sf_history.specs.declared.event.Event.{Event}
 use Rattle.sf_replay.specs.declared.record.Interval.{Interval}
@@ -15,4 +16,6 @@ returns g c =
     record {
       once = subst (λ (es : List (Event g.row.K.Denot g.row.V.Denot × Option Interval)). IsPermutation es (zip c.from_vec.result c.in_ok-events.times.items)) first
           (subst (λ (es : List (Event g.row.K.Denot g.row.V.Denot × Option Interval)). IsPermutation (map pair ranked) es) last moved);
+      even = (λ i. length ((c.from_vec.ensures ∙ c.in_ok-events.ensures.events) i))
+          ∙ (length-map sorted (λ r. r.event) ∙ (sym (length-map sorted (λ r. r.time)) ∙ (λ i. length (sym c.in_ok-events.ensures.times i))));
     }

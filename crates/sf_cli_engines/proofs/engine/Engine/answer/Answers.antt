@@ -44,14 +44,14 @@ returns-in-Picture-clause-part g c =
     (schedule_part string_bytes (λ text. HasPicture c.args.input.now) c.args.input.now c.drawn.result _ _
     c.drawn.ensures.played c.drawn.ensures.refused wrote.answered_part wrote.refused_part)
 
-pub returns-in-AsItStands-clause-written : goal.returns-in-AsItStands-clause-written
-returns-in-AsItStands-clause-written g c = rw (c.in-Check.is, c.in-AsItStands.is) c.check.ensures.written
+pub returns-in-Check-clause-written : goal.returns-in-Check-clause-written
+returns-in-Check-clause-written g c = rw c.in-Check.is c.check_as.ensures.written
 
-pub returns-in-InTime-clause-written : goal.returns-in-InTime-clause-written
-returns-in-InTime-clause-written g c = rw (c.in-Check.is, c.in-InTime.is) c.check_in_time.ensures.written
+pub returns-in-CheckLogs-clause-part : goal.returns-in-CheckLogs-clause-part
+returns-in-CheckLogs-clause-part g c = rw c.in-CheckLogs.is c.check_logs.ensures.part
 
-pub returns-in-Drawn-clause-written : goal.returns-in-Drawn-clause-written
-returns-in-Drawn-clause-written g c = rw (c.in-Check.is, c.in-Drawn.is) c.draw_in_time.ensures.written
+pub returns-in-CheckLogs-clause-written : goal.returns-in-CheckLogs-clause-written
+returns-in-CheckLogs-clause-written g c = rw c.in-CheckLogs.is c.check_logs.ensures.written
 
 pub returns-in-Merge-clause-written : goal.returns-in-Merge-clause-written
 returns-in-Merge-clause-written g c =

@@ -1,0 +1,316 @@
+//! Looking a key up: whether its entry may be returned, and what is taken of it.
+
+use super::entry::Entry;
+use super::loads::Got;
+use super::shard::Shard;
+use super::stats::Reason;
+use super::times::Moment;
+use super::{Inner, Left};
+use crate::hash::bytes_of;
+use crate::keyed::Handle;
+use crate::places::{Hold, Taken};
+use crate::recording::{Noted, ValueRecord};
+use crate::sync::point;
+use std::borrow::Borrow;
+use std::hash::Hash;
+use std::ptr::NonNull;
+use std::sync::Arc;
+
+/// That an entry was found is noted again after such a part of its idle time.
+const IDLE_STEPS: u64 = 16;
+
+/// A key, and what was so when a get of it began.
+pub(super) struct At<'a, Q: ?Sized> {
+    pub(super) key: &'a Q,
+    pub(super) fingerprint: u64,
+    pub(super) era: u64,
+    /// The count of forgotten tags.
+    pub(super) mine: u64,
+    /// When it began, if the cache is recorded.
+    pub(super) noted: Option<Noted>,
+}
+
+impl<Q: Hash + ?Sized> At<'_, Q> {
+    /// The key as the group knows it.
+    pub(super) fn name(&self, era: u64) -> Vec<u8> {
+        bytes_of(era, self.key)
+    }
+}
+
+impl<Q: ?Sized> At<'_, Q> {
+    /// The key's hash within its shard. The upper half of the fingerprint has chosen the shard.
+    #[inline]
+    pub(super) fn print(&self) -> u32 {
+        self.fingerprint as u32
+    }
+
+    /// The record of an entry that this get has met, if both are of one recording.
+    #[inline]
+    fn record<K, V, E>(&self, entry: &Entry<K, V, E>) -> Option<Arc<ValueRecord>> {
+        let noted = self.noted.as_ref()?;
+        entry.record().filter(|record| record.is_of(noted)).cloned()
+    }
+
+    /// This get returns what another has loaded, if that is recorded.
+    #[inline]
+    pub(super) fn enters(&self, record: Option<&Arc<ValueRecord>>) {
+        if let (Some(noted), Some(record)) = (&self.noted, record) {
+            record.enters(noted);
+        }
+    }
+}
+
+/// What an entry is worth to a get.
+#[derive(Clone, Copy, Debug, PartialEq)]
+pub(super) enum Verdict {
+    Fresh {
+        is_due: bool,
+        now: Option<Moment>,
+    },
+    /// Past its time, and good in place of an error.
+    Stale,
+    Expired,
+    Forgotten,
+    /// Of an era that began after the get did.
+    Newer,
+}
+
+/// A value that a call of [`crate::Cache::read`] reads.
+pub(super) enum Held<'a, V> {
+    Near(#[allow(dead_code)] Hold<'a>, NonNull<V>),
+    Far(Arc<V>),
+}
+
+impl<V> std::ops::Deref for Held<'_, V> {
+    type Target = V;
+
+    fn deref(&self) -> &V {
+        match self {
+            // SAFETY: the entry is held, and so is the value that it has.
+            Held::Near(_, value) => unsafe { value.as_ref() },
+            Held::Far(value) => value,
+        }
+    }
+}
+
+/// What was taken of an entry; its record; and its key, if it is due and this get is to begin its
+/// refresh.
+type Took<K, R> = (Option<R>, Option<Arc<ValueRecord>>, Option<K>);
+
+impl<K, V, E> Inner<K, V, E>
+where
+    K: Hash + Eq + Clone + Send + Sync + 'static,
+    V: Send + Sync + 'static,
+    E: Send + Sync + 'static,
+{
+    /// A get of the key begins.
+    #[inline]
+    pub(super) fn at<'a, Q: Hash + ?Sized>(&self, key: &'a Q) -> At<'a, Q> {
+        let noted = self.recordings.noted();
+        // Both before a value is looked for: one of an older era is no answer to a get that began
+        // later, and none that a forgotten tag had ended.
+        let (era, mine) = (self.era(), self.tags.now());
+        At { key, fingerprint: self.fingerprint(key), era, mine, noted }
+    }
+
+    #[inline]
+    pub(super) fn shard(&self, fingerprint: u64) -> &Shard<K, V, E> {
+        &self.shards[self.shard_number(fingerprint)]
+    }
+
+    #[inline]
+    pub(super) fn shard_number(&self, fingerprint: u64) -> usize {
+        (fingerprint >> 32) as usize & (self.shards.len() - 1)
+    }
+
+    /// What an entry is worth to a get that began in the era.
+    #[inline]
+    pub(super) fn verdict(&self, entry: &Entry<K, V, E>, era: u64, handle: &mut Handle) -> Verdict {
+        match entry.eras_after(era) {
+            0 => {}
+            ..0 => return Verdict::Forgotten,
+            1.. => return Verdict::Newer,
+        }
+        point();
+        if !handle.is_still(&entry.stamp()) {
+            return Verdict::Forgotten;
+        }
+        if let Some(more) = entry.more() {
+            let are_current = match entry.error() {
+                None => self.tags.are_current(&more.tags, more.clock),
+                Some(_) => self.tags.are_all_current(more.clock),
+            };
+            if !are_current {
+                return Verdict::Forgotten;
+            }
+        }
+        self.verdict_by_time(entry)
+    }
+
+    #[inline]
+    fn verdict_by_time(&self, entry: &Entry<K, V, E>) -> Verdict {
+        let (ttl, options) = (entry.ttl(self.options.ttl), &self.options);
+        let (idle, refresh) = match entry.error() {
+            None => (options.idle, options.refresh),
+            Some(_) => (u64::MAX, u64::MAX),
+        };
+        if [ttl, idle, refresh].iter().all(|time| *time == u64::MAX) {
+            return Verdict::Fresh { is_due: false, now: None };
+        }
+        let (now, born) = (options.clock.now(), entry.born(&self.eras));
+        let age = now.since(born);
+        let mut late = age.checked_sub(ttl);
+        if idle < u64::MAX {
+            late = late.max(now.since(entry.found(born)).checked_sub(idle));
+        }
+        match late {
+            None => Verdict::Fresh { is_due: age >= refresh, now: Some(now) },
+            Some(late) if late < options.stale && entry.error().is_none() => Verdict::Stale,
+            Some(_) => Verdict::Expired,
+        }
+    }
+
+    /// What the cache has of the key: its value, or an error that is kept.
+    #[inline]
+    pub(super) fn find<Q>(self: &Arc<Self>, key: &At<'_, Q>) -> Option<Got<V, E>>
+    where
+        K: Borrow<Q>,
+        Q: Hash + Eq + ?Sized,
+    {
+        self.find_by(key, |entry, _| Some(Got::of(entry)))
+    }
+
+    /// The value of the key. One that finds an error returns nothing.
+    #[inline]
+    pub(super) fn find_value<Q>(self: &Arc<Self>, key: &At<'_, Q>) -> Option<Arc<V>>
+    where
+        K: Borrow<Q>,
+        Q: Hash + Eq + ?Sized,
+    {
+        self.find_by(key, |entry, _| entry.value().cloned())
+    }
+
+    /// The value of the key for a read, for which no count is written that others write.
+    pub(super) fn hold<'a, Q>(self: &'a Arc<Self>, key: &At<'_, Q>) -> Option<Held<'a, V>>
+    where
+        K: Borrow<Q>,
+        Q: Hash + Eq + ?Sized,
+    {
+        self.find_by(key, |entry, place| {
+            let value = entry.value()?;
+            let far = || Held::Far(value.clone());
+            let hold = place.and_then(Taken::hold);
+            Some(hold.map_or_else(far, |hold| Held::Near(hold, NonNull::from(&**value))))
+        })
+    }
+
+    /// What is taken of the key's entry, if it is fresh. It takes no lock for that. A get that takes
+    /// nothing of an entry has found it all the same.
+    #[inline]
+    fn find_by<'a, Q, R>(
+        self: &'a Arc<Self>,
+        key: &At<'_, Q>,
+        take: impl Fn(&Entry<K, V, E>, Option<&Taken<'a>>) -> Option<R>,
+    ) -> Option<R>
+    where
+        K: Borrow<Q>,
+        Q: Hash + Eq + ?Sized,
+    {
+        let places = &self.group.shared.places;
+        let shard = self.shard(key.fingerprint);
+        let near = shard.look(places, key.print(), key.key, |place, entry| {
+            let verdict = self.verdict(entry, key.era, &mut place.handle);
+            let Verdict::Fresh { is_due, now } = verdict else { return None };
+            place.hits += 1;
+            let taken = take(entry, Some(place));
+            Some((taken, key.record(entry), self.found(entry, is_due, now)))
+        });
+        let (taken, record, due) = match near.flatten() {
+            Some(took) => took,
+            None => self.find_far(key, |entry| take(entry, None))?,
+        };
+        if taken.is_some() {
+            key.enters(record.as_ref());
+        }
+        // First: if the recorder panics, nobody else would begin it.
+        if let Some(due) = due {
+            self.refresh(due, key.fingerprint);
+        }
+        if let Some(recorder) = &self.options.recorder {
+            recorder.hit();
+        }
+        taken
+    }
+
+    /// Marks an entry that was found. Its key, if this get is to begin its refresh.
+    #[inline]
+    fn found(&self, entry: &Entry<K, V, E>, is_due: bool, now: Option<Moment>) -> Option<K> {
+        entry.mark();
+        if let Some(now) = now.filter(|_| self.options.idle < u64::MAX) {
+            entry.touch(now, entry.born(&self.eras), self.options.idle / IDLE_STEPS);
+        }
+        // Most gets see that another one is to replace it, and write nothing. The clone may panic: it
+        // comes before the mark, which nobody would take away.
+        let key = (is_due && !entry.is_refreshed()).then(|| entry.key.clone());
+        key.filter(|_| entry.begins_refresh())
+    }
+
+    /// Looks once more, with the shard's lock: an entry may have been moved, or come. One that is met
+    /// and can never be returned again leaves.
+    #[cold]
+    fn find_far<Q, R>(
+        &self,
+        key: &At<'_, Q>,
+        take: impl FnOnce(&Entry<K, V, E>) -> Option<R>,
+    ) -> Option<Took<K, R>>
+    where
+        K: Borrow<Q>,
+        Q: Hash + Eq + ?Sized,
+    {
+        let (mut left, places) = (Left::new(self), &self.group.shared.places);
+        let mut shard = self.shard(key.fingerprint).lock(&self.yard);
+        let entry = shard.find(key.print(), key.key);
+        let (verdict, took) = places.with(|seat| {
+            let verdict = entry.map(|entry| self.verdict(entry, key.era, &mut seat.handle));
+            let (Some(entry), Some(Verdict::Fresh { is_due, now })) = (entry, verdict) else {
+                seat.misses += 1;
+                return (verdict, None);
+            };
+            seat.hits += 1;
+            let due = self.found(entry, is_due, now);
+            (verdict, Some((take(entry), key.record(entry), due)))
+        });
+        let reason = match verdict {
+            Some(Verdict::Forgotten) => Some(Reason::Forgotten),
+            Some(Verdict::Expired) => Some(Reason::Expired),
+            _ => None,
+        };
+        if let Some(reason) = reason {
+            left.extend(shard.remove(key.print(), key.key), reason);
+        }
+        drop(shard);
+        drop(left);
+        if let (None, Some(recorder)) = (&took, &self.options.recorder) {
+            recorder.miss();
+        }
+        took
+    }
+
+    /// What is made of the key's entry now, with the shard's lock. It counts as no get.
+    pub(super) fn peek<Q, R>(
+        &self,
+        key: &At<'_, Q>,
+        make: impl FnOnce(&Entry<K, V, E>, Verdict) -> Option<R>,
+    ) -> Option<R>
+    where
+        K: Borrow<Q>,
+        Q: Hash + Eq + ?Sized,
+    {
+        let era = self.era();
+        let shard = self.shard(key.fingerprint).lock(&self.yard);
+        let entry = shard.find(key.print(), key.key)?;
+        let places = &self.group.shared.places;
+        let verdict = places.with(|seat| self.verdict(entry, era, &mut seat.handle));
+        make(entry, verdict)
+    }
+}
