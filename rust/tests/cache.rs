@@ -1,15 +1,17 @@
 //! The cache: what it promises, each with a test.
+mod apart;
 mod waits;
 
-use singleflight::{Cache, Error, Fetched};
+use apart::apart;
+use singleflight::{Cache, CacheStats, Error, Fetched};
 use std::future::Future;
 use std::panic::{catch_unwind, AssertUnwindSafe};
 use std::pin::{pin, Pin};
 use std::sync::atomic::{AtomicBool, AtomicU64, AtomicUsize, Ordering::SeqCst};
 use std::sync::{Arc, Barrier, Mutex, Weak};
 use std::task::{Context, Poll, Waker};
-use std::time::Duration;
-use waits::{ends, until};
+use std::time::{Duration, Instant};
+use waits::{ends, until, LIMIT};
 
 fn counted(limit: u64) -> (Cache<String, String>, Arc<Mutex<Vec<String>>>) {
     let left = Arc::new(Mutex::new(Vec::new()));
@@ -228,8 +230,7 @@ fn what_is_remembered_is_freed_when_it_has_left() {
 
 #[test]
 fn a_read_may_use_the_cache() {
-    // So many hash slots that the two keys share one by a rare chance only.
-    let cache = Cache::<String, u32>::builder(2).loads(1 << 14).build().unwrap();
+    let cache = apart(&["key", "other"], || Cache::<String, u32>::new(2));
     assert_eq!(cache.read("key", |_| unreachable!("it is empty")), None::<()>);
     cache.get_or_load("key", || 1);
     for round in 0..5 {
@@ -366,6 +367,13 @@ fn keys_that_are_asked_for_once_push_out_none_that_was_found() {
 // The keys in use are others after a while. The old ones leave, and not the newest.
 #[test]
 fn older_entries_make_room() {
+    // By the hashes of the keys the keys in use are too many for one shard, in one cache of 1,000.
+    let mut all = [(); 7].map(|()| loads_of_newer_keys());
+    all.sort();
+    assert!(all[3] < 700, "250 keys in turn were loaded so often in caches of 500: {all:?}");
+}
+
+fn loads_of_newer_keys() -> u64 {
     let cache: Cache<u32, u32> = Cache::builder(500).entries(50_000).build().unwrap();
     for old in 0..500u32 {
         for _ in 0..2 {
@@ -378,8 +386,7 @@ fn older_entries_make_room() {
             cache.get_or_load(&new, || 2);
         }
     }
-    let loads = cache.stats().loads - before;
-    assert!(loads < 700, "250 keys in turn were loaded {loads} times in a cache of 500");
+    cache.stats().loads - before
 }
 
 #[test]
@@ -459,9 +466,10 @@ fn an_insert_by_a_token_loses_to_each_invalidation_since() {
         assert!(!token.insert(1), "{what}: it is said to be kept");
         assert_eq!(cache.get("key"), None, "{what}: an older value is kept");
         assert!(cache.write_token("key").insert(4) && cache.get("key").as_deref() == Some(&4));
-        // Each invalidation counts as one of a few other keys too.
+        // Each invalidation counts as one of a few other keys too: on average 1.3 of the 50 are not
+        // kept, and 14 or more in less than one of 10^9 runs.
         let kept = others.into_iter().map(|token| u32::from(token.insert(2))).sum::<u32>();
-        assert!(if what == "all" { kept == 0 } else { kept > 40 }, "{what}: {kept} of 50 are kept");
+        assert!(if what == "all" { kept == 0 } else { kept > 36 }, "{what}: {kept} of 50 are kept");
     }
 }
 
@@ -626,6 +634,10 @@ fn tasks_load_once_and_may_be_dropped() {
 
 // Gets beside writes: after an invalidation has returned, no get that begins later has an older
 // value. The long form makes 10,000,000 gets beside 1,000,000 invalidations.
+//
+// In which order the threads run is left to the machine: the writer may empty the cache as fast as
+// the readers fill it. So the writer stops once, until a value was found and one has made room, and
+// the readers go on until then.
 fn gets_beside_writes(gets: u64, all: bool) {
     const KEYS: usize = 64;
     const THREADS: u64 = 4;
@@ -633,8 +645,8 @@ fn gets_beside_writes(gets: u64, all: bool) {
     let versions: Vec<AtomicU64> = (0..KEYS).map(|_| AtomicU64::new(0)).collect();
     let live = Arc::new(());
     let cache: Cache<usize, (usize, u64, Arc<()>)> = Cache::builder(48).build().unwrap();
-    let (stop, old, wrong, heavy) =
-        (AtomicBool::new(false), AtomicU64::new(0), AtomicU64::new(0), AtomicU64::new(0));
+    let (stop, has_filled) = (AtomicBool::new(false), AtomicBool::new(false));
+    let (old, wrong, heavy) = (AtomicU64::new(0), AtomicU64::new(0), AtomicU64::new(0));
     let step = |state: &mut u64| {
         *state =
             state.wrapping_mul(6_364_136_223_846_793_005).wrapping_add(1_442_695_040_888_963_407);
@@ -644,9 +656,13 @@ fn gets_beside_writes(gets: u64, all: bool) {
         let readers: Vec<_> = (0..THREADS)
             .map(|number| {
                 let (cache, versions, live, old, wrong) = (&cache, &versions, &live, &old, &wrong);
+                let has_filled = &has_filled;
                 scope.spawn(move || {
                     let mut state = number;
-                    for turn in 0..gets / THREADS {
+                    for turn in 0.. {
+                        if turn >= gets / THREADS && has_filled.load(SeqCst) {
+                            break;
+                        }
                         let key = step(&mut state);
                         let seen = versions[key].load(SeqCst);
                         let load = || (key, versions[key].load(SeqCst), live.clone());
@@ -668,6 +684,16 @@ fn gets_beside_writes(gets: u64, all: bool) {
         let writer = scope.spawn(|| {
             let (mut state, mut turn) = (99, 0);
             while turn < gets / 10 || !stop.load(SeqCst) {
+                if turn == gets / 20 {
+                    let (before, from) = (cache.stats(), Instant::now());
+                    let is_full = |now: CacheStats| {
+                        now.hits > before.hits && now.evictions > before.evictions
+                    };
+                    while !is_full(cache.stats()) && from.elapsed() < LIMIT {
+                        std::thread::sleep(Duration::from_millis(1));
+                    }
+                    has_filled.store(true, SeqCst);
+                }
                 let key = step(&mut state);
                 let version = versions[key].fetch_add(1, SeqCst) + 1;
                 match turn % 8 {
@@ -688,6 +714,9 @@ fn gets_beside_writes(gets: u64, all: bool) {
     });
     let counts = [old, wrong, heavy].map(AtomicU64::into_inner);
     assert_eq!(counts, [0, 0, 0], "old, of another key, over the limit");
+    // What has left while a get read it may stay until the end of another read.
+    cache.get_or_load(&0, || (0, versions[0].load(SeqCst), live.clone()));
+    assert_eq!(cache.read(&0, |value| value.0), Some(0));
     let stats = cache.stats();
     assert!(stats.hits > 0 && stats.loads > 0 && stats.evictions > 0, "{stats:?}");
     assert_eq!(Arc::strong_count(&live) as u64, stats.entries + 1, "a value that left is held");
