@@ -185,20 +185,8 @@ impl Drop for Taken<'_> {
 /// is always open, and the others are split off from it.
 pub(crate) struct Places(Box<[Place]>);
 
-#[cfg(test)]
-thread_local! {
-    /// Whether the groups that this thread opens have the same seeds in each run, since its test says
-    /// what becomes of each key. A Forget of one key ends what its hash slot has of others, and two
-    /// keys of the test would share a slot in one run and not in another.
-    pub(crate) static HAS_FIXED_SEEDS: std::cell::Cell<bool> = const { std::cell::Cell::new(false) };
-}
-
 /// Seeds that nobody knows.
 fn seeds() -> [u64; 2] {
-    #[cfg(test)]
-    if HAS_FIXED_SEEDS.get() {
-        return [0x243f_6a88_85a3_08d3, 0x1319_8a2e_0370_7344];
-    }
     let random = RandomState::new();
     [0, 1].map(|number: u64| random.hash_one(number))
 }

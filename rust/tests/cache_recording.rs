@@ -1,10 +1,12 @@
 //! Recordings of a cache: what each method is recorded as (docs/RECORDS.md), what is left out, lost
 //! events, and logs of a stress, which are legal in time. `SFLIGHT_CALLS` says how many calls each of
 //! the six threads of the stress makes in each cache.
+mod apart;
 mod judge;
 mod random;
 mod waits;
 
+use apart::apart;
 use judge::{judge, legal, read, Event, Log};
 use random::Random;
 use singleflight::{Cache, CacheBuilder, Fetched, LoadError, RecordError, Recorded};
@@ -21,7 +23,8 @@ use waits::{until, LIMIT};
 
 type Store<V = u32> = Cache<String, V, String>;
 
-// It has so many hash slots that no two keys of a test share one.
+// It has so many hash slots that two keys of a test rarely share one. Where they must not, `apart`
+// sees to it.
 fn store(limit: u64) -> Store {
     Cache::builder(limit).loads(1 << 16).build().unwrap()
 }
@@ -151,8 +154,7 @@ fn what_each_method_is_recorded_as() {
         let first = cache.try_get_or_load("a", || unreachable!()).unwrap();
         assert_eq!(cache.get("a"), Some(first.clone()));
         assert_eq!(cache.read("a", |value| *value), Some(1));
-        let wait = Duration::from_secs(1);
-        cache.get_or_load_timeout("a", wait, || unreachable!()).unwrap();
+        cache.get_or_load_timeout("a", LIMIT, || unreachable!()).unwrap();
         assert_eq!(cache.get("b"), None);
         assert!(cache.read("b", |_| ()).is_none());
         assert!(cache.invalidate_if("a", &first), "it closes the call");
@@ -167,7 +169,7 @@ fn what_each_method_is_recorded_as() {
         cache.get_or_fetch("a", tagged).unwrap();
         // These are no gets.
         assert!(cache.iter().count() == 1 && cache.len() == 1 && cache.stats().entries == 1);
-        let got = cache.get_or_load_timeout("d", wait, || fetched(5));
+        let got = cache.get_or_load_timeout("d", LIMIT, || fetched(5));
         assert_eq!(got.as_deref(), Ok(&5));
         cache.invalidate("d");
         let failed = cache.try_get_or_load("d", || Err("no".into()));
@@ -321,7 +323,7 @@ fn loads_that_end_without_a_value() {
 // What was loaded before the recording, or is loading, is not in it. What is kept at its end is.
 #[test]
 fn a_recording_of_a_part() {
-    let cache = store(10);
+    let cache = apart(&["a", "b", "held", "open"], || store(10));
     let (load, held) = Held::new();
     cache.insert("a", 1);
     cache.insert("b", 1);
@@ -511,32 +513,49 @@ fn errors_that_are_kept() {
     );
 }
 
+/// Three tags of three ages. Which tags share an age is the same in all caches with so many entries.
+fn tags() -> [String; 3] {
+    let cache = store(100);
+    let mut tags: Vec<String> = Vec::new();
+    for number in 0..100 {
+        let tag = format!("tag {number}");
+        cache.insert_fetched("probe", Fetched::new(1).tags(&tags));
+        cache.invalidate_tag(&tag);
+        if tags.len() < 3 && cache.get("probe").is_some() {
+            tags.push(tag);
+        }
+    }
+    tags.try_into().expect("three tags of three ages")
+}
+
 #[test]
 fn tags_close_what_has_them() {
-    // So many entries give so many ages that no two of the tags share one.
-    let cache: Store = Cache::builder(100).entries(1 << 14).loads(1 << 16).build().unwrap();
-    let tagged = |tags: &'static [&'static str]| move || Ok(Fetched::new(1).tags(tags));
+    let (cache, [ada, bob, eve]) = (store(100), tags());
+    let tagged = |tags: &[&String]| {
+        let fetched = Fetched::new(1).tags(tags);
+        move || Ok(fetched)
+    };
     let (load, held) = Held::new();
     let log = recorded(&cache, || {
-        cache.get_or_fetch("both", tagged(&["ada", "bob"])).unwrap();
-        cache.get_or_fetch("ada", tagged(&["ada"])).unwrap();
+        cache.get_or_fetch("both", tagged(&[&ada, &bob])).unwrap();
+        cache.get_or_fetch("ada", tagged(&[&ada])).unwrap();
         cache.get_or_fetch("none", tagged(&[])).unwrap();
-        cache.invalidate_tag("ada");
-        cache.get_or_fetch("both", tagged(&["ada", "bob"])).unwrap();
+        cache.invalidate_tag(&ada);
+        cache.get_or_fetch("both", tagged(&[&ada, &bob])).unwrap();
         cache.invalidate("both");
         // It has nothing to close: what had it was closed before.
-        cache.invalidate_tag("bob");
-        cache.get_or_fetch("after", tagged(&["bob"])).unwrap();
+        cache.invalidate_tag(&bob);
+        cache.get_or_fetch("after", tagged(&[&bob])).unwrap();
         // While it is loaded, and one has joined before and one after.
         std::thread::scope(|scope| {
             scope.spawn(|| cache.get_or_fetch("load", load.clone()).unwrap());
             let gives = held.begun();
-            scope.spawn(|| cache.get_or_fetch("load", tagged(&["eve"])).unwrap());
+            scope.spawn(|| cache.get_or_fetch("load", tagged(&[&eve])).unwrap());
             until("one joins", || cache.stats().joins == 1);
-            cache.invalidate_tag("eve");
-            scope.spawn(|| cache.get_or_fetch("load", tagged(&["eve"])).unwrap());
+            cache.invalidate_tag(&eve);
+            scope.spawn(|| cache.get_or_fetch("load", tagged(&[&eve])).unwrap());
             until("another joins", || cache.stats().joins == 2);
-            gives.send(Ok(Fetched::new(2).tags(["eve"]))).unwrap();
+            gives.send(Ok(Fetched::new(2).tags([&eve]))).unwrap();
         });
     });
     has_shape(
@@ -596,7 +615,7 @@ fn forgets_of_all() {
 
 #[test]
 fn values_that_make_room_are_counted() {
-    let cache = store(2);
+    let cache = apart(&["0", "1", "2", "3", "4"], || store(2));
     let (log, recorded) = log_of(&cache, || {
         for key in 0..5 {
             cache.insert(&key.to_string(), key);
@@ -791,8 +810,13 @@ fn a_writer_that_calls_the_cache() {
         out.write(text)
     }));
     let recording = recording.unwrap();
+    // Its own calls make it write again. More inserts than a lane has room for would be lost.
+    let mut inserts = 0;
     until("it has written often", || {
-        cache.insert("another", 0);
+        if inserts < 100 {
+            cache.insert("another", 0);
+            inserts += 1;
+        }
         writes.load(SeqCst) > 3
     });
     recording.stop().unwrap();
@@ -913,6 +937,18 @@ fn logs_of_a_stress_are_legal_in_time() {
                 (1..7).for_each(|seed| drop(scope.spawn(move || stressed(cache, seed, calls))));
             });
             until("loads end", || cache.stats().in_use == 0);
+            // Few loads fail or panic, and none may, as the threads take turns.
+            cache.invalidate("key-0");
+            assert!(cache.get_or_fetch("key-0", || Err("no".into())).is_err());
+            cache.invalidate("key-0");
+            let panics = || cache.get_or_fetch("key-0", || std::panic::resume_unwind(Box::new(())));
+            assert!(catch_unwind(AssertUnwindSafe(panics)).is_err());
+            // Where the machine was slow, each value was idle for too long before it could make room.
+            let before = cache.stats().evictions;
+            until("one makes room", || {
+                (0..6).for_each(|key| _ = cache.insert(&format!("key-{key}"), 7));
+                name != "small" || cache.stats().evictions > before
+            });
         });
         let all = match catch_unwind(|| legal(&log).len()) {
             Ok(_) => legal(&log),

@@ -83,11 +83,12 @@ fn a_time_to_live_counts_from_the_begin_of_the_load() {
 fn a_load_says_for_how_long_its_value_is_good() {
     let (cache, hand, left_by) = cache(|builder| builder.time_to_live(seconds(10)));
     let fetch = |key, value: Fetched<u32>| cache.get_or_fetch(key, || Ok(value));
+    // First: it would end the values of other keys that share its hash slot.
+    assert!(cache.insert_fetched("written", Fetched::new(5).ttl(seconds(3))));
     assert_eq!(fetch("short", Fetched::new(1).ttl(seconds(3))).as_deref(), Ok(&1));
     assert_eq!(fetch("long", Fetched::new(2).ttl(seconds(30))).as_deref(), Ok(&2));
     assert_eq!(fetch("usual", Fetched::new(3)).as_deref(), Ok(&3));
     assert_eq!(fetch("unkept", Fetched::new(4).unkept()).as_deref(), Ok(&4));
-    assert!(cache.insert_fetched("written", Fetched::new(5).ttl(seconds(3))));
     assert_eq!(cache.len(), 4);
     let mut all = Vec::new();
     for _ in 0..4 {
@@ -117,8 +118,9 @@ fn a_time_to_live_is_drawn() {
         keys.iter().filter(|key| cache.get(*key).is_some()).count()
     };
     assert_eq!(kept(50), 50, "after the half of it");
+    // Of 50 coins 3 or fewer show one side in one of 10^10 throws.
     let some = kept(25);
-    assert!(some > 5 && some < 45, "{some} of 50 after three quarters");
+    assert!(some > 3 && some < 47, "{some} of 50 after three quarters");
     assert_eq!(kept(25), 0, "after all of it");
 }
 
@@ -488,9 +490,10 @@ fn a_tag_ends_all_values_that_have_it() {
         let load = || Ok(Fetched::new(1).tags(tags));
         cache.get_or_fetch(key, load).unwrap();
     };
+    // First: it would end the values of other keys that share its hash slot.
+    assert!(cache.insert_fetched("e", Fetched::new(1).tags([&red])));
     put("b", &[&round]);
     put("d", &[]);
-    assert!(cache.insert_fetched("e", Fetched::new(1).tags([&red])));
     put("a", &[&red, &round]);
     put("c", &[&red]);
     cache.invalidate_tag(&red);

@@ -702,8 +702,13 @@ fn a_writer_that_calls_the_group() {
         out.write(text)
     }));
     let recording = recording.unwrap();
+    // Its own calls make it write again. More calls than a lane has room for would be lost.
+    let mut calls = 0;
     until("it has written often", || {
-        group.get_or_load("another", || 0);
+        if calls < 100 {
+            group.get_or_load("another", || 0);
+            calls += 1;
+        }
         writes.load(SeqCst) > 3
     });
     recording.stop().unwrap();

@@ -44,34 +44,50 @@ fn calls_of_other_keys_wake_nobody() {
                 (all.iter().all(|it| it.0), all.iter().map(|it| it.1).sum::<u64>())
             };
             until("all join", || group.stats().joins == WAITERS as u64);
-            let mut before = all();
-            until("all sleep", || {
-                let first = std::mem::replace(&mut before, all());
-                before == (true, first.1)
-            });
-            // Calls of 1,000 other keys, each with one who waits and is woken.
-            for round in 0..1000u32 {
-                let key = format!("{round}-key");
-                let (mut first, mut second) = (group.caller(), group.caller());
-                let joins = group.stats().joins;
-                std::thread::scope(|scope| {
-                    let asks = || {
-                        assert!(
-                            *second.get_or_load(key.as_bytes(), || panic!("a second load")).value
-                                == round,
-                            "the answer"
-                        )
-                    };
-                    let load = || {
-                        scope.spawn(asks);
-                        until("it joins", || group.stats().joins > joins);
-                        round
-                    };
-                    first.get_or_load(key.as_bytes(), load);
+            let all_sleep = || {
+                let mut before = all();
+                until("all sleep", || {
+                    let first = std::mem::replace(&mut before, all());
+                    before == (true, first.1)
                 });
+                before.1
+            };
+            // Calls of 1,000 other keys, each with one who waits and is woken. Returns how often one
+            // of the others went to sleep meanwhile.
+            let calls = || {
+                let before = all_sleep();
+                for round in 0..1000u32 {
+                    let key = format!("{round}-key");
+                    let (mut first, mut second) = (group.caller(), group.caller());
+                    let joins = group.stats().joins;
+                    std::thread::scope(|scope| {
+                        let asks = || {
+                            assert!(
+                                *second
+                                    .get_or_load(key.as_bytes(), || panic!("a second load"))
+                                    .value
+                                    == round,
+                                "the answer"
+                            )
+                        };
+                        let load = || {
+                            scope.spawn(asks);
+                            until("it joins", || group.stats().joins > joins);
+                            round
+                        };
+                        first.get_or_load(key.as_bytes(), load);
+                    });
+                }
+                all().1 - before
+            };
+            // A thread says that it sleeps a moment before it does, and counts that it has gone to
+            // sleep. It may lose its processor between the two, and count after the last look. So if
+            // any has counted there is a second try, in which each of them really sleeps.
+            let first = calls();
+            if first > 0 {
+                let woken = (first, calls());
+                assert_eq!(woken.1, 0, "so often a waiter of the slow key was woken: {woken:?}");
             }
-            let woken = all().1 - before.1;
-            assert!(woken == 0, "{woken} times a waiter of the slow key was woken");
             7
         });
         assert!(got.joiners == WAITERS as u32, "all joined");

@@ -5,9 +5,9 @@
 //! the value itself. What is not returned has to have a reason. Where bits of a time are left out
 //! ([`super::times`]), a value may end some microseconds early.
 
+use super::tests::are_apart;
 use super::times::Moment;
 use super::{Cache, CacheBuilder, CacheStats, Fetched, LoadError, Reason};
-use std::collections::BTreeSet;
 use std::sync::{Arc, Mutex};
 use std::time::Duration;
 
@@ -265,12 +265,7 @@ impl Model {
 
     /// Whether no two keys share a hash slot in this era, which has begun now.
     fn finds_slots(&self) -> bool {
-        let inner = &self.cache.0;
-        let slots = (0..KEYS).map(|key| {
-            let (_receiver, job) = inner.group.subscribe(inner.at(&key).name(inner.era()));
-            job.and_then(|job| job.call()).map(|call| (call.stamp.table, call.stamp.slot))
-        });
-        slots.collect::<BTreeSet<_>>().len() == KEYS as usize
+        are_apart(&self.cache, KEYS)
     }
 
     fn below(&self, most: u64) -> u64 {

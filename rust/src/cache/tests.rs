@@ -6,10 +6,9 @@ use super::shard::{Shard, Yard, MAIN, SMALL};
 use super::times::Moment;
 use super::{Cache, CacheBuilder, Fetched, LoadError};
 use crate::hash::bytes_of;
-use crate::places::HAS_FIXED_SEEDS;
 use crate::shared::Shared;
 use crate::Stamp;
-use std::collections::HashMap;
+use std::collections::{BTreeSet, HashMap};
 use std::convert::Infallible;
 use std::sync::atomic::{AtomicU64, Ordering::SeqCst};
 use std::sync::{Arc, Mutex};
@@ -113,8 +112,22 @@ const SECOND: u64 = 1_000_000_000;
 /// Both clocks, by seconds that a test sets.
 type Clocks = Arc<Mutex<(u64, u64)>>;
 
+/// Whether no two of the keys from 0 on share a hash slot in the era that runs: a Forget of one of
+/// them would end what the slot has of the other.
+pub(super) fn are_apart<V, E>(cache: &Cache<u64, V, E>, keys: u64) -> bool
+where
+    V: Send + Sync + 'static,
+    E: Send + Sync + 'static,
+{
+    let inner = &cache.0;
+    let slots = (0..keys).map(|key| {
+        let (_receiver, job) = inner.group.subscribe(inner.at(&key).name(inner.era()));
+        job.and_then(|job| job.call()).map(|call| (call.stamp.table, call.stamp.slot))
+    });
+    slots.collect::<BTreeSet<_>>().len() == keys as usize
+}
+
 fn by_clocks(clocks: &Clocks) -> CacheBuilder<u64, u64> {
-    HAS_FIXED_SEEDS.set(true);
     let clocks = clocks.clone();
     Cache::builder(1_000).loads(1 << 12).clocks(move || {
         let (steady, wall) = *clocks.lock().unwrap();
@@ -156,17 +169,20 @@ fn since((steady, wall): (u64, u64), then: (u64, u64)) -> u64 {
 #[test]
 fn a_value_lives_as_long_as_both_clocks_say() {
     const WALL: u64 = 1_700_000_000;
+    const KEYS: u64 = 12;
     let times = [0, 1, 60, 200, 100_000, 20_000_000].map(Duration::from_secs);
     let odd = [59_123_456_789, 90_000_000_001, 100 * SECOND - 1].map(Duration::from_nanos);
     let times = [&times[..], &odd[..], &[Duration::MAX]].concat();
     for seed in 0..20 {
         let clocks = Clocks::new(Mutex::new((seed, WALL)));
-        let cache = by_clocks(&clocks).time_to_live(Duration::from_secs(100)).build().unwrap();
+        let make = || by_clocks(&clocks).time_to_live(Duration::from_secs(100)).build().unwrap();
+        let mut made = std::iter::repeat_with(make).take(100);
+        let cache = made.find(|cache| are_apart(cache, KEYS)).expect("a hash slot for each key");
         let (mut random, mut born) = (random(seed), HashMap::new());
         let (mut hits, mut ends) = (0, 0);
         for number in 0..3_000 {
             pass(&clocks, &mut random);
-            let (key, now) = (random(12), *clocks.lock().unwrap());
+            let (key, now) = (random(KEYS), *clocks.lock().unwrap());
             let expected = born.get(&key).and_then(|(then, ttl, value)| {
                 let age = Duration::from_secs(since(now, *then));
                 (age < *ttl).then_some(*value)
