@@ -1,6 +1,7 @@
 // Command origin has pages for cacheserver: GET answers a page with its version, POST writes it,
-// and GET /loads answers how often pages were asked for. GET /slow takes a second, /large has the
-// most bytes that a page may have, /larger has one more, and /broken fails.
+// and GET /loads answers how often pages were asked for. GET /slow takes a second, and GET
+// /slow-loads answers how often that has begun; /large has the most bytes that a page may have,
+// /larger has one more, and /broken fails.
 package main
 
 import (
@@ -17,9 +18,12 @@ func main() {
 	flag.Parse()
 	var mu sync.Mutex // protects the rest
 	written := map[string]int{}
-	loads := 0
+	loads, slow := 0, 0
 	log.Fatal(http.ListenAndServe(*listen, http.HandlerFunc(func(w http.ResponseWriter, r *http.Request) {
 		if r.Method == http.MethodGet && r.URL.Path == "/slow" {
+			mu.Lock()
+			slow++
+			mu.Unlock()
 			time.Sleep(time.Second)
 		}
 		mu.Lock()
@@ -30,6 +34,8 @@ func main() {
 			written[page]++
 		case page == "/loads":
 			fmt.Fprintln(w, loads)
+		case page == "/slow-loads":
+			fmt.Fprintln(w, slow)
 		case page == "/large":
 			loads++
 			w.Write(make([]byte, 1<<20))
