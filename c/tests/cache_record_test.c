@@ -593,8 +593,9 @@ static void *get_until_the_end(void *cache) {
     return NULL;
 }
 
-/* A recording ends while such calls are being told. Whether a call has been told whole by then is chance, above all on a machine
- * that is busy: so there are more rounds until one was. */
+/* A recording ends while such calls are being told. Whether one of its own calls has been told by then is chance. Where none was in
+ * all rounds, one more round lasts longer. Each thread may be in a get from before the recording, may lead one call by that, which
+ * JOINING - 1 others join, and may be in a get at the end. A join that is none of these is recorded. */
 static void joined_at_the_end(void) {
     pthread_t threads[JOINING];
     sflight_recorded recorded;
@@ -606,11 +607,11 @@ static void joined_at_the_end(void) {
     if (!cache) abort();
     atomic_store(&is_joining, true);
     for (int i = 0; i < JOINING; i++) pthread_create(&threads[i], NULL, get_until_the_end, cache);
-    for (int i = 0; is_right && (i < ROUNDS / 8 || (enters == 0 && i < ROUNDS * 100)); i++) {
+    for (int i = 0; is_right && (i < ROUNDS / 8 || (enters == 0 && i == ROUNDS / 8)); i++) {
         struct log log = {0};
         record(cache, &log);
-        uint64_t joins = sflight_cache_statistics(cache).joins;
-        while (sflight_cache_statistics(cache).joins < joins + JOINING) sched_yield();
+        uint64_t joins = sflight_cache_statistics(cache).joins + (i < ROUNDS / 8 ? JOINING : (JOINING + 2) * JOINING);
+        while (sflight_cache_statistics(cache).joins < joins) sched_yield();
         sflight_cache_stop(cache, &recorded);
         is_right = is_legal(&log, &recorded, &counts);
         enters += counts.of[ENTER];

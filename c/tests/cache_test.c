@@ -775,6 +775,10 @@ static void test_one_load(void) {
     sflight_cache_close(m.cache);
 }
 
+/* Gets of all threads, and threads that get yet. Counts of gets are relaxed, and every sixteenth alone: nothing is ordered by them. */
+enum { PER_COUNT = 16 };
+static atomic_uint gets_made, reading;
+
 static void *read_beside_forgets(void *arg) {
     struct asker *a = arg;
     unsigned state = a->number * 2654435761u + 1;
@@ -788,16 +792,22 @@ static void *read_beside_forgets(void *arg) {
          * before that may not come. */
         if (get(a->cache, key, (size_t)len, &version) > SFLIGHT_CACHE_JOINED) a->unseen++;
         else if (version + 1 < (seen & ~1u)) a->old++;
+        if (i % PER_COUNT == 0) atomic_fetch_add_explicit(&gets_made, PER_COUNT, memory_order_relaxed);
     }
+    reading--;
     return NULL;
 }
 
-/* Each change is a version that is odd, a Forget, and the next version, which is even. */
+/* Each change is a version that is odd, a Forget, and the next version, which is even. Where the gets are slower than the Forgets
+ * the cache would never be full: so the Forgets stop now and then, until there were gets enough to fill it. */
 static void *forget_beside(void *arg) {
+    enum { TO_FILL = 4 * KEYS };
     struct asker *a = arg;
     unsigned state = 12345;
     char key[24];
     for (unsigned i = 0; i < GETS / 10 * THREADS || !atomic_load(a->stop); i++) {
+        unsigned from = atomic_load_explicit(&gets_made, memory_order_relaxed);
+        while (i % TO_FILL == 0 && atomic_load_explicit(&gets_made, memory_order_relaxed) - from < TO_FILL && reading > 0) sched_yield();
         state = state * 1664525 + 1013904223;
         unsigned n = (state >> 16) % KEYS;
         int len = snprintf(key, sizeof key, "key-%u", n);
@@ -814,6 +824,7 @@ static void test_forgets_beside_gets(void) {
     atomic_bool stop = false;
     sflight_cache *cache = open_cache(40, 48, &plan);
     struct asker askers[THREADS + 1];
+    reading = THREADS;
     for (unsigned i = 0; i <= THREADS; i++) {
         askers[i] = (struct asker){.cache = cache, .number = i, .stop = &stop};
         if (pthread_create(&askers[i].thread, NULL, i < THREADS ? read_beside_forgets : forget_beside,

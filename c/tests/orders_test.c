@@ -30,7 +30,7 @@ static long order_futex(long number, const void *word, int what, unsigned value,
 
 #include <glob.h>
 
-enum { CALLERS = 8, ACTORS = 2 * CALLERS, ITEMS = 8, KEYS = 16, WORDS = 12, LONGEST = 128, NUMBERS = 64, MOST_SECONDS = 60, TO_END = 20, MOST_FILLERS = 100 };
+enum { CALLERS = 8, ACTORS = 2 * CALLERS, ITEMS = 8, KEYS = 16, WORDS = 12, LONGEST = 128, NUMBERS = 64, MOST_SECONDS = 60, TO_END = 60, MOST_FILLERS = 100 };
 #define ERROR UINT64_MAX /* what a load returns that fails */
 #define HOUR INT64_C(3600000000000)
 

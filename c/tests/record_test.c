@@ -938,9 +938,11 @@ static void calling_writer(void) {
     uint64_t calls = 0;
     for (; calls < 10; calls++) {
         load_key(calling.pool, "k", 1);
+        /* The writer has emptied the lanes before its first write, so later calls make it write again, however slow it is. */
+        while (calls == 0 && calling.log.writes == 0) sleep_ms(1);
         sleep_ms(6);
     }
-    /* The writer's own calls make it write again. More calls here would be lost where it is slow. */
+    /* And then its own calls do. */
     while (calling.log.writes < 6) sleep_ms(1);
     sflight_recorded recorded = stop(calling.pool);
     check(recorded.failed == 0 && recorded.events == 3 * calls + 4 * 4 && is_legal(&calling.log, &recorded), "a writer that calls the pool");
@@ -1062,7 +1064,7 @@ static void signals(void) {
 /* Several threads, with a recording after the other. */
 enum { THREADS = 8, STRESSED = 5 };
 static sflight_pool *stressed;
-static atomic_int running;
+static atomic_int running, made; /* threads, and their calls and Forgets */
 static bool is_standing;
 
 static uint64_t short_load(void *context, const uint8_t *key, size_t len);
@@ -1095,6 +1097,7 @@ static void *stress_one(void *at) {
         name[1] = (char)(name[1] + key);
         if (rand_r(&seed) % 5 == 0) sflight_do_forget(stressed, unsigned_bytes(name), 2);
         else stress_call(key, &seed);
+        atomic_fetch_add_explicit(&made, 1, memory_order_relaxed);
     }
     running--;
     return NULL;
@@ -1107,12 +1110,13 @@ static void stress(const char *what, uint32_t sizes, bool stands) {
     stressed = sflight_do_open(sizes, NULL);
     is_standing = stands;
     running = THREADS;
+    made = 0;
     do {
         struct log log = {0};
         record(stressed, &log);
-        /* The first recording has some of each thread, also where this thread is slow. */
+        /* The first recording has calls, also where this thread is slow, or the others are. */
         for (size_t i = 0; i < THREADS && recordings == 0; i++) if (pthread_create(&threads[i], NULL, stress_one, (void *)i) != 0) abort();
-        for (int i = 0; i < 20 && running > 0; i++) sleep_ms(2);
+        for (int i = 0; running > 0 && (i < 20 || (recordings == 0 && made < 8 * THREADS)); i++) sleep_ms(2);
         sflight_recorded recorded = stop(stressed);
         events += recorded.events;
         lost += recorded.lost;

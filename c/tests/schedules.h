@@ -254,11 +254,13 @@ static inline void play_all(void (*run)(int number)) {
 
 /* The threads of the actors, which play one schedule after the other. */
 static inline void open_plays(void) {
-    /* Threads that run one after the other do so sooner on one processor. */
-    cpu_set_t all, one;
-    if (sched_getaffinity(0, sizeof all, &all) == 0) {
+    /* Threads that run one after the other do so sooner on one processor. Which one it is the system has chosen: where several such
+     * tests run beside each other they would all share the first. */
+    cpu_set_t one;
+    int here = sched_getcpu();
+    if (here >= 0 && here < CPU_SETSIZE) {
         CPU_ZERO(&one);
-        for (int i = 0; i < CPU_SETSIZE && CPU_COUNT(&one) == 0; i++) if (CPU_ISSET(i, &all)) CPU_SET(i, &one);
+        CPU_SET(here, &one);
         sched_setaffinity(0, sizeof one, &one);
     }
     sem_init(&play.end, 0, 0);
