@@ -12,7 +12,7 @@
 
 /* After so many seconds it hangs. */
 #ifndef LIMIT
-#define LIMIT 500
+#define LIMIT 1400
 #endif
 
 enum { MOST_WORK = 8, MOST_LEFT = 4096, REASONS = 5 };

@@ -32,7 +32,7 @@ static void *test_aligned_alloc(size_t alignment, size_t size);
 
 /* After so many seconds it hangs. */
 #ifndef LIMIT
-#define LIMIT 500
+#define LIMIT 1400
 #endif
 
 enum { PLAY_STEPS = 2000, KEYS = 8, TAGS = 3, MOST_KNOWN = 64 * PLAY_STEPS, MOST_WORKS = 4, MOST_ITEMS = 6, MOST_RAN = 20, MOST_HELD = 20, NOBODY = -1 };

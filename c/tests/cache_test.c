@@ -38,7 +38,7 @@ static void *test_aligned_alloc(size_t alignment, size_t size);
 
 /* After so many seconds it hangs. */
 #ifndef LIMIT
-#define LIMIT 500
+#define LIMIT 1400
 #endif
 
 enum { THREADS = 4, KEYS = 64, LIVE = 0x5a5a, DEAD = 0xdead };

@@ -13,7 +13,7 @@
 
 /* After so many seconds it hangs. */
 #ifndef LIMIT
-#define LIMIT 500
+#define LIMIT 1400
 #endif
 
 static atomic_int passed, failed;

@@ -43,7 +43,7 @@ static void *test_aligned_alloc(size_t alignment, size_t size);
 
 /* After so many seconds it hangs. */
 #ifndef LIMIT
-#define LIMIT 500
+#define LIMIT 1400
 #endif
 
 static atomic_int passed, failed;

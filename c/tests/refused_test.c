@@ -13,7 +13,7 @@
 
 /* After so many seconds it hangs. */
 #ifndef LIMIT
-#define LIMIT 500
+#define LIMIT 1400
 #endif
 
 enum { DEEPEST = 12, MOST_ALLOCATIONS = 1000, THREADS = 4, CALLS_OF_EACH = 300 };

@@ -23,7 +23,7 @@
 
 /* After so many seconds a pool hangs. */
 #ifndef LIMIT
-#define LIMIT 500
+#define LIMIT 1400
 #endif
 
 enum {
