@@ -148,8 +148,8 @@ func TestCacheJitter(t *testing.T) {
 	for last := values; last > 0; {
 		o.pass(25 * time.Second)
 		n := kept()
-		// A tenth of them end in each tenth of the rest.
-		if n > last-values/10+60 || n < last-values/10-60 {
+		// A tenth of them end in each tenth of the rest: 100, with a deviation of 9.5. It is below 20, or above 180, once in 10^13 tests.
+		if n > last-values/10+80 || n < last-values/10-80 {
 			t.Fatal("they end together", last, n)
 		}
 		if last = n; o.nanoseconds.Load() >= int64(1000*time.Second)-1 {
@@ -264,8 +264,11 @@ func TestCacheKeptErrors(t *testing.T) {
 	before := o.loads.Load()
 	mustGet(t, o.Cache, "c", 99)
 	until(t, "it is refreshed", func() bool { return o.Stats().Stale == 1 && o.Stats().InUse == 0 })
-	mustGet(t, o.Cache, "c", 99)
-	until(t, "it is refreshed again", func() bool { return o.loads.Load() >= before+2 && o.Stats().InUse == 0 })
+	// A Get begins no refresh while the goroutine of the last one has not said that it is over: so one Get more may be none.
+	until(t, "it is refreshed again", func() bool {
+		mustGet(t, o.Cache, "c", 99)
+		return o.loads.Load() >= before+2 && o.Stats().InUse == 0
+	})
 	o.Close()
 	o.mustLeave(t, "c 99 closed")
 }
@@ -406,41 +409,43 @@ func tagsApart(all *tags) (a, b, c string) {
 func TestCacheTags(t *testing.T) {
 	o := newCounting(t, 100, WithErrorTTL(func(error) time.Duration { return time.Hour }))
 	a, b, c := tagsApart(&o.room.tags)
+	keys := apart(o.Cache, 5)
+	both, one, none, put, failed := keys[0], keys[1], keys[2], keys[3], keys[4]
 	o.loaded.Tags = []string{a, b}
-	mustGet(t, o.Cache, "ab", 1)
+	mustGet(t, o.Cache, both, 1)
 	o.loaded.Tags = []string{b}
-	mustGet(t, o.Cache, "b", 2)
+	mustGet(t, o.Cache, one, 2)
 	o.loaded.Tags = nil
-	mustGet(t, o.Cache, "none", 3)
-	o.PutWith(o.Token("put"), Loaded[int]{Value: 9, Tags: []string{a}})
+	mustGet(t, o.Cache, none, 3)
+	o.PutWith(o.Token(put), Loaded[int]{Value: 9, Tags: []string{a}})
 	o.failed.Store(true)
 	o.loaded.Tags = []string{a}
-	if _, err := o.Get(always, "error"); err != errDown || o.loads.Load() != 4 {
+	if _, err := o.Get(always, failed); err != errDown || o.loads.Load() != 4 {
 		t.Error(err)
 	}
 	o.ForgetTag(c)
-	if _, err := o.Get(always, "error"); err != errDown || o.loads.Load() != 4 {
+	if _, err := o.Get(always, failed); err != errDown || o.loads.Load() != 4 {
 		t.Error("the error has another tag", err)
 	}
 	o.failed.Store(false)
-	mustGet(t, o.Cache, "ab", 1)
-	mustGet(t, o.Cache, "put", 9)
+	mustGet(t, o.Cache, both, 1)
+	mustGet(t, o.Cache, put, 9)
 	o.ForgetTag(a)
-	mustGet(t, o.Cache, "b", 2)
-	mustGet(t, o.Cache, "none", 3)
-	for i, key := range []string{"ab", "put", "error"} {
+	mustGet(t, o.Cache, one, 2)
+	mustGet(t, o.Cache, none, 3)
+	for i, key := range []string{both, put, failed} {
 		if _, ok := o.GetIfPresent(key); ok {
 			t.Error("it has the tag", key)
 		}
 		mustGet(t, o.Cache, key, 5+i)
 	}
 	// A token that was drawn before is void for a value with the tag.
-	token := o.Token("put")
+	token := o.Token(put)
 	o.ForgetTag(b)
 	if o.PutWith(token, Loaded[int]{Value: 10, Tags: []string{b}}) {
 		t.Error("it is kept")
 	}
-	o.mustLeave(t, "ab 1 forgotten", "put 6 forgotten", "put 9 forgotten")
+	o.mustLeave(t, both+" 1 forgotten", put+" 6 forgotten", put+" 9 forgotten")
 	if st := o.Stats(); st.Forgets != 5 {
 		t.Error("two Puts and three ForgetTags", st.Forgets)
 	}

@@ -192,37 +192,41 @@ func TestCacheRecordingsLines(t *testing.T) {
 // What was loaded before the recording, or is loading, is not in it. What is kept at its end is.
 func TestCacheRecordingOfAPart(t *testing.T) {
 	started, release := chans()
+	var held string
 	c := newCache(t, 10, func(_ context.Context, key string) (int, error) {
-		if key == "held" {
+		if key == held {
 			close(started)
 			<-release
 		}
 		return 1, nil
 	}, wide)
-	c.Get(always, "a")
-	c.Get(always, "b")
+	keys := apart(c, 3)
+	a, b := keys[0], keys[1]
+	held = keys[2]
+	c.Get(always, a)
+	c.Get(always, b)
 	got := make(chan error)
-	go func() { _, err := c.Get(always, "held"); got <- err }()
+	go func() { _, err := c.Get(always, held); got <- err }()
 	begun(t, started)
 	r := recordCache(t, c)
-	c.Get(always, "a") // not recorded
-	c.Forget("a")      // idle
-	c.Get(always, "a")
-	c.Get(always, "a")
-	c.Get(always, "b") // not recorded
-	c.Put("b", 2)
-	c.Forget("held") // idle: the call began before
+	c.Get(always, a) // not recorded
+	c.Forget(a)      // idle
+	c.Get(always, a)
+	c.Get(always, a)
+	c.Get(always, b) // not recorded
+	c.Put(b, 2)
+	c.Forget(held) // idle: the call began before
 	close(release)
 	if err := came(t, got); err != nil {
 		t.Error(err)
 	}
-	c.Get(always, "b")
+	c.Get(always, b)
 	mustBe(t, r.stops(t), map[string]int{"forget": 3, "lead": 2, "enter": 2, "settle": 2, "handed": 2})
 	// The nodes of an earlier recording are in no later one.
 	r = recordCache(t, c)
-	c.Get(always, "a")
-	c.Forget("a")
-	c.Get(always, "b")
+	c.Get(always, a)
+	c.Forget(a)
+	c.Get(always, b)
 	mustBe(t, r.stops(t), map[string]int{"forget": 1})
 }
 
@@ -398,7 +402,11 @@ func TestCacheRecordingOfASlowWriter(t *testing.T) {
 // Where the writer is stopped, no Get that has joined a load stands in the log without that, also if the value is not kept.
 func TestCacheRecordingOfJoinersOfASlowWriter(t *testing.T) {
 	heavy := WithCost(func(string, int) int64 { return 11 })
-	c := newCache(t, 10, func(_ context.Context, key string) (int, error) {
+	var c *Cache[string, int]
+	var meet sync.Once
+	c = newCache(t, 10, func(_ context.Context, key string) (int, error) {
+		// The first load is shared by all, whatever runs when.
+		meet.Do(func() { until(t, "the others join", func() bool { return c.Stats().Joins == 2 }) })
 		for i := 0; i < 5; i++ {
 			runtime.Gosched()
 		}

@@ -56,7 +56,8 @@ func newOrigin(t testing.TB, limit int64, options ...Option) *origin {
 	return o
 }
 
-// So many slots that no two keys of a test share one, but by a rare chance.
+// So many slots that two keys of a test share one by a chance of about 1 in 60,000. A test that forgets a key, and then wants the value of
+// another one, has keys that are apart.
 func wide(s *sizes) { s.slots = 1 << 17 }
 
 func newCache[V any](
@@ -313,23 +314,25 @@ func TestCacheValues(t *testing.T) {
 
 func TestCacheForget(t *testing.T) {
 	o := newOrigin(t, 10, wide)
-	mustGet(t, o.Cache, "key-1", page{"key-1", 0})
-	mustGet(t, o.Cache, "key-2", page{"key-2", 0})
-	o.versions[1].Store(1)
-	mustGet(t, o.Cache, "key-1", page{"key-1", 0})
-	o.Forget("key-1")
+	keys := apart(o.Cache, 3)
+	one, other := keys[0], keys[1]
+	mustGet(t, o.Cache, one, page{one, 0})
+	mustGet(t, o.Cache, other, page{other, 0})
+	o.versions[numberOf(one)].Store(1)
+	mustGet(t, o.Cache, one, page{one, 0})
+	o.Forget(one)
 	if st := o.Stats(); st.Values != 1 || st.Left != 1 || st.Evictions != 0 {
 		t.Errorf("it has left: %+v", st)
 	}
-	if _, ok := o.GetIfPresent("key-1"); ok {
+	if _, ok := o.GetIfPresent(one); ok {
 		t.Error("it was forgotten")
 	}
-	mustGet(t, o.Cache, "key-1", page{"key-1", 1})
-	mustGet(t, o.Cache, "key-2", page{"key-2", 0})
+	mustGet(t, o.Cache, one, page{one, 1})
+	mustGet(t, o.Cache, other, page{other, 0})
 	if n := o.loads.Load(); n != 3 {
 		t.Error("the other key is loaded once", n)
 	}
-	o.Forget("key-3")
+	o.Forget(keys[2])
 }
 
 // Each look after a Forget asks whether the call is current: a value is not found whose stamp has ended,
@@ -845,8 +848,13 @@ func TestCacheLimit(t *testing.T) {
 		for _, it := range c.now.Load().values.all() {
 			sum += it.cost()
 		}
-		if st := c.Stats(); sum != st.Weight || sum > 100 || slots > 1 && sum < 50 {
+		if st := c.Stats(); sum != st.Weight || sum > 100 {
 			t.Errorf("%d slots: the values cost %d: %+v", slots, sum, st)
+		}
+		// All of the room is there yet: what was forgotten last may have left little else.
+		mustGet(t, c, keyNumber(100), 100)
+		if v, ok := c.GetIfPresent(keyNumber(100)); !ok || c.Weight() != 100 {
+			t.Errorf("%d slots: a value of the limit is not kept: %d, %+v", slots, v, c.Stats())
 		}
 	}
 }
@@ -920,6 +928,16 @@ func TestCacheEvictionSteps(t *testing.T) {
 	}
 }
 
+// A hash that is the same in each process, for tests whose numbers come of which keys share a shard, a bucket or a row of ghosts.
+func fixedHash(key string) uint64 {
+	h := uint64(0xcbf29ce484222325)
+	for i := 0; i < len(key); i++ {
+		h = (h ^ uint64(key[i])) * 0x100000001b3
+	}
+	h = (h ^ h>>32) * 0x9e3779b97f4a7c15
+	return h ^ h>>29
+}
+
 // Hits of a cache of so many values by least recent use, which makes room for each value.
 func hitsByLRU(trace []uint64, values int) (hits int) {
 	order, at := list.New(), map[uint64]*list.Element{}
@@ -962,6 +980,8 @@ func TestCacheHitRatio(t *testing.T) {
 		{"the keys change", moves, keys / 20, -4},
 	} {
 		c := newCache(t, int64(it.values), number, wide)
+		// By the seeds of one process in thousands, keys that change have some points less.
+		c.kind.hash = fixedHash
 		for _, key := range it.trace {
 			c.Get(always, keyNumber(int(key)))
 		}

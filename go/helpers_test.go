@@ -40,6 +40,22 @@ func allocations(do func()) float64 {
 	return least
 }
 
+// apart returns so many keys of a cache that share no hash slot: a Forget of one leaves the values of the others. It asks for each, and
+// so counts a load of the group.
+func apart[V any](c *Cache[string, V], count int) (keys []string) {
+	p, taken := c.now.Load().p, map[words]bool{}
+	for i := 0; len(keys) < count; i++ {
+		a := asking{key: keyNumber(i)}
+		p.table.ask(&a)
+		p.ends(new(Result), &a)
+		if slot := (words{a.stamp.table, a.stamp.slot, 0}); !taken[slot] {
+			taken[slot] = true
+			keys = append(keys, a.key)
+		}
+	}
+	return keys
+}
+
 // What Of's Do returns, for a Group whose function takes no context.
 func doCall(
 	g *Group, key string, fn func() (any, error),

@@ -52,8 +52,9 @@ func TestRecordingOfAStress(t *testing.T) {
 			if testing.Short() {
 				rounds = 300
 			}
+			var got results
 			log := recordedBy(t, g, func() {
-				stressed(g, 12, rounds)
+				stressed(g, 12, rounds, &got)
 				// Loads that their callers have left end too. Their goroutines record them at the very end.
 				until(t, "all have ended", func() bool { return g.Stats().InUse == 0 && !isLeading() })
 			})
@@ -75,9 +76,9 @@ func TestRecordingOfAStress(t *testing.T) {
 			if leads := uint64(kinds["lead"]); leads != st.Loads {
 				t.Error("calls are left out, or told twice", kinds, st)
 			}
-			// Those are left out that left before the load began, or that asked again.
-			if enters := uint64(kinds["enter"]); name == "wide" && (enters > st.Joins || enters < st.Joins/2) {
-				t.Error("members are left out, or told twice", kinds, st)
+			// Those are left out that left before the load began. However many these are, each that waited for a result is told.
+			if enters := uint64(kinds["enter"]); enters < got.joiners() || name == "wide" && enters > st.Joins {
+				t.Error("members are left out, or told twice", kinds, st, got.joiners())
 			}
 			t.Log(len(all), kinds, st)
 		})
@@ -91,13 +92,38 @@ func isLeading() bool {
 	return regexp.MustCompile(`singleflight\.\(\*core\)\.(lead|goOn|doChan|leadContext)[(.]`).Match(all)
 }
 
-func stressed(g *Group, goroutines, rounds int) {
+// How many have joined each call of which somebody has the result, and waited for that.
+type results struct {
+	mu    sync.Mutex
+	calls map[callID]int
+}
+
+func (r *results) add(got Result) {
+	if got.Call == (Call{}) {
+		return // its caller has left
+	}
+	r.mu.Lock()
+	defer r.mu.Unlock()
+	if r.calls == nil {
+		r.calls = map[callID]int{}
+	}
+	r.calls[got.Call.id] = got.Joiners
+}
+
+func (r *results) joiners() (n uint64) {
+	for _, joiners := range r.calls {
+		n += uint64(joiners)
+	}
+	return n
+}
+
+func stressed(g *Group, goroutines, rounds int, got *results) {
 	var all sync.WaitGroup
 	for i := 0; i < goroutines; i++ {
 		all.Add(1)
 		go func(i int) {
 			defer all.Done()
-			recordedStress(g, rand.New(rand.NewSource(int64(i))), rounds)
+			recordedStress(g, rand.New(rand.NewSource(int64(i))), rounds, got)
 		}(i)
 	}
 	all.Wait()
@@ -105,7 +131,7 @@ func stressed(g *Group, goroutines, rounds int) {
 
 var errStress = errors.New("it fails")
 
-func recordedStress(g *Group, r *rand.Rand, rounds int) {
+func recordedStress(g *Group, r *rand.Rand, rounds int, all *results) {
 	pause := func() {
 		if r.Intn(4) == 0 {
 			time.Sleep(time.Duration(r.Intn(50)) * time.Microsecond)
@@ -127,6 +153,7 @@ func recordedStress(g *Group, r *rand.Rand, rounds int) {
 		switch what := r.Intn(20); {
 		case what < 6:
 			got, _ := g.Of.Do(always, key, load)
+			all.add(got)
 			calls = []Call{got.Call}
 		case what < 10:
 			own := rand.New(rand.NewSource(r.Int63()))
@@ -136,6 +163,7 @@ func recordedStress(g *Group, r *rand.Rand, rounds int) {
 				return 1, nil
 			})
 			cancel()
+			all.add(got)
 			calls = append(calls, got.Call)[len(calls)/3:]
 		case what < 12:
 			own := rand.New(rand.NewSource(r.Int63()))
@@ -159,12 +187,12 @@ func recordedStress(g *Group, r *rand.Rand, rounds int) {
 			}
 		}
 		if len(pending) > 3 {
-			<-pending[0]
+			all.add(<-pending[0])
 			pending = pending[1:]
 		}
 	}
 	for _, ch := range pending {
-		<-ch
+		all.add(<-ch)
 	}
 }
 

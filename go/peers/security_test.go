@@ -226,11 +226,13 @@ func TestRefusedRequestsAreLogged(t *testing.T) {
 	if len(lines) != 3 {
 		t.Errorf("%d lines", len(lines))
 	}
+	begun := time.Now()
 	for i := 0; i < 1000; i++ {
 		send(forgetPath)
 	}
-	if len(lines) > 5*mostRefused {
-		t.Errorf("%d lines of 1,000 requests", len(lines))
+	// So many for each second in which it sends, of which there are more on a slow machine. Those of one second may come at its end.
+	if took := time.Since(begun); len(lines) > 5*mostRefused*int(took/time.Second+1) {
+		t.Errorf("%d lines of 1,000 requests within %v", len(lines), took)
 	}
 	var r refusals
 	now := time.Now()
@@ -254,16 +256,12 @@ func memory() int64 {
 
 // However many requests there are at one time, the connections to a peer are bounded.
 func TestConnectionsAreBounded(t *testing.T) {
-	var open, most atomic.Int64
-	server := httptest.NewUnstartedServer(http.HandlerFunc(func(http.ResponseWriter, *http.Request) { time.Sleep(50 * time.Millisecond) }))
+	var open atomic.Int64
+	release := make(chan struct{})
+	server := httptest.NewUnstartedServer(http.HandlerFunc(func(http.ResponseWriter, *http.Request) { <-release }))
 	server.Config.ConnState = func(_ net.Conn, state http.ConnState) {
-		switch state {
-		case http.StateNew:
-			if now := open.Add(1); now > most.Load() {
-				most.Store(now)
-			}
-		case http.StateClosed:
-			open.Add(-1)
+		if state == http.StateNew {
+			open.Add(1)
 		}
 	}
 	server.Start()
@@ -282,10 +280,14 @@ func TestConnectionsAreBounded(t *testing.T) {
 			got.Body.Close()
 		}()
 	}
-	all.Wait()
-	if most.Load() > mostConnections || most.Load() < mostConnections/2 {
-		t.Errorf("%d connections for %d requests, of which there may be %d", most.Load(), 3*mostConnections, mostConnections)
+	// No request ends, so each takes a connection of its own, as long as it gets one.
+	until(t, func() bool { return open.Load() >= mostConnections }, "there are fewer connections than there may be")
+	time.Sleep(200 * time.Millisecond) // in which more would come
+	if n := open.Load(); n != mostConnections {
+		t.Errorf("%d connections for %d requests, of which there may be %d", n, 3*mostConnections, mostConnections)
 	}
+	close(release)
+	all.Wait()
 }
 
 // What a peer of the pool may not send, either.
