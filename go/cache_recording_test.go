@@ -401,6 +401,9 @@ func TestCacheRecordingOfASlowWriter(t *testing.T) {
 
 // Where the writer is stopped, no Get that has joined a load stands in the log without that, also if the value is not kept.
 func TestCacheRecordingOfJoinersOfASlowWriter(t *testing.T) {
+	if testing.Short() && !isRaceDetected {
+		t.Skip("it fills lanes of many events")
+	}
 	heavy := WithCost(func(string, int) int64 { return 11 })
 	var c *Cache[string, int]
 	var meet sync.Once

@@ -958,6 +958,9 @@ func hitsByLRU(trace []uint64, values int) (hits int) {
 // What makes room is chosen well: there are as many hits as by least recent use, but for four in a
 // hundred gets; and where keys are asked for by zipf's law, or once, more.
 func TestCacheHitRatio(t *testing.T) {
+	if testing.Short() {
+		t.Skip("it is the same however the package was built")
+	}
 	const keys, gets = 10000, 100000
 	random := rand.New(rand.NewSource(1))
 	draw := rand.NewZipf(random, 1.01, 1, keys-1)
@@ -1509,7 +1512,10 @@ func TestCacheGrows(t *testing.T) {
 	c := newCache(t, 1<<40, number,
 		WithLoads(2), WithCost(func(string, int) int64 { return 1 << 10 }),
 		WithOnEvict(func(string, int) { left.Add(1) }))
-	const keys = 40000
+	keys := 40000
+	if testing.Short() {
+		keys = 10000
+	}
 	buckets := len(c.now.Load().values.shards[0].index.Load())
 	for n := 0; n < 3; n++ {
 		for i := 0; i < keys; i++ {
@@ -1520,7 +1526,7 @@ func TestCacheGrows(t *testing.T) {
 	if n := len(c.now.Load().values.shards[0].index.Load()); n <= buckets {
 		t.Errorf("it grows: %d, %+v", n, st)
 	}
-	if st.Values < keys*9/10 || int64(st.Left) != left.Load() || st.Weight != int64(st.Values)<<10 || st.Loads > 2*keys {
+	if st.Values < uint64(keys*9/10) || int64(st.Left) != left.Load() || st.Weight != int64(st.Values)<<10 || st.Loads > uint64(2*keys) {
 		t.Errorf("it has most of the values: %+v", st)
 	}
 	sum := int64(0)
@@ -1541,12 +1547,16 @@ func TestCacheGrowsBesideGets(t *testing.T) {
 	var left atomic.Int64
 	c := newCache(t, 1<<40, number, WithCost(func(string, int) int64 { return 1 }),
 		WithOnEvict(func(string, int) { left.Add(1) }))
+	gets := 20000
+	if testing.Short() {
+		gets = 5000
+	}
 	var all sync.WaitGroup
 	for g := 0; g < 8; g++ {
 		all.Add(1)
 		go func(g int) {
 			defer all.Done()
-			for i := 0; i < 20000; i++ {
+			for i := 0; i < gets; i++ {
 				mustGet(t, c, keyNumber(i*(g+1)%25000), i*(g+1)%25000)
 				if i%50 == 0 {
 					c.Forget(keyNumber(i % 100))
