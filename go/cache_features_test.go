@@ -646,6 +646,7 @@ func TestCacheMakesRoomElsewhere(t *testing.T) {
 		}
 		return 1
 	}))
+	o.kind.hash = fixedHash
 	for i := 0; i < 1000; i++ {
 		o.Get(always, keyNumber(i))
 	}
@@ -817,6 +818,7 @@ func TestCacheOptionErrors(t *testing.T) {
 // A key that left the small queue lately comes into the main one, where it outlives keys that are asked for once.
 func TestCacheGhosts(t *testing.T) {
 	o := newCounting(t, 50)
+	o.kind.hash = fixedHash
 	once := 0
 	asksOnce := func(n int) {
 		for ; n > 0; n-- {

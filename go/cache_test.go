@@ -901,6 +901,7 @@ func TestCacheEvictionSteps(t *testing.T) {
 		}
 		return small / large
 	}), wide)
+	c.kind.hash = fixedHash
 	for i := 0; i < small; i++ {
 		mustGet(t, c, keyNumber(i), i)
 	}
