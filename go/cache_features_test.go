@@ -267,7 +267,7 @@ func TestCacheKeptErrors(t *testing.T) {
 	// A Get begins no refresh while the goroutine of the last one has not said that it is over: so one Get more may be none.
 	until(t, "it is refreshed again", func() bool {
 		mustGet(t, o.Cache, "c", 99)
-		return o.loads.Load() >= before+2 && o.Stats().InUse == 0
+		return t.Failed() || o.loads.Load() >= before+2 && o.Stats().InUse == 0
 	})
 	o.Close()
 	o.mustLeave(t, "c 99 closed")
