@@ -74,7 +74,7 @@ enum {
     FEWEST_CELLS = 64,
     MOST_TAG_CELLS = 65536,
     TAG_CELLS_OF_ENTRY = 4, /* so that a ForgetTag seldom ends the values of another tag */
-    FIRST_BUCKET = 1000, /* nanoseconds: a load that takes fewer is in the first bucket */
+    FIRST_BUCKET = 1000, /* nanoseconds: a load that takes no more is in the first bucket */
     NEXT_BUCKET = 4,     /* each bucket reaches so many times as far as the one before it */
     IDLE_PART = 16,     /* a hit is written down in steps of this part of the idle time */
     ERAS = 64
@@ -185,6 +185,7 @@ struct sflight_cache {
     _Atomic(uint64_t) limit;
     atomic_ullong hits, misses;            /* of threads without a seat */
     atomic_ullong repeats, stale; /* repeats: calls that were joined, and not by a get for good */
+    atomic_ullong other_forgets;  /* Forgets that the pool does not count, less those that it counts besides */
     _Atomic(int64_t) eras[ERAS]; /* how far the wall clock is ahead of the steady one, as births saw it; or NO_ERA */
     atomic_uint era;             /* that of the last birth */
     int64_t tick;                /* a step in which hits are written down */
@@ -219,6 +220,7 @@ struct getting {
     int64_t took;
     void *lost; /* a value that there was no memory to keep */
     bool is_led, is_joined, is_put, is_found, is_failure, is_lost;
+    bool is_beside;      /* another key of its batch counts the time that the load took */
     uint8_t place, uses; /* of the value that was replaced */
     size_t item;         /* of a batch */
     struct getting *next, **before; /* by the shard's lock */
@@ -473,6 +475,7 @@ void sflight_cache_forget_tag(sflight_cache *c, const uint8_t *tag, size_t len) 
     watch(c, &noted);
     uint64_t hash = hash_of(c, tag, len);
     unsigned long long now = atomic_fetch_add(&c->clock, 1) + 1;
+    atomic_fetch_add_explicit(&c->other_forgets, 1, memory_order_relaxed);
     atomic_ullong *ages = ages_of(c);
     SFLIGHT_POINT("before age");
     lift(ages ? &ages[hash & (c->cells - 1)] : &c->floor, now);
@@ -997,10 +1000,11 @@ static bool begins(struct getting *g) {
 
 /* Counts the load of this get. With the shard's lock. */
 static void count_load(struct shard *s, const struct getting *g) {
+    s->failures += g->is_failure;
+    if (g->is_beside) return;
     int64_t time = g->took > 0 ? g->took : 0;
     unsigned bucket = 0;
-    for (int64_t most = FIRST_BUCKET; bucket + 1 < SFLIGHT_CACHE_BUCKETS && time >= most; most *= NEXT_BUCKET) bucket++;
-    s->failures += g->is_failure;
+    for (int64_t most = FIRST_BUCKET; bucket + 1 < SFLIGHT_CACHE_BUCKETS && time > most; most *= NEXT_BUCKET) bucket++;
     s->load_time += (uint64_t)time;
     s->load_times[bucket]++;
 }
@@ -1052,7 +1056,10 @@ static void has_failed(struct getting *g, bool is_missing, const sflight_cache_l
     int code = is_missing ? SFLIGHT_CACHE_MISSING : SFLIGHT_CACHE_FAILED;
     failure.value = NULL;
     g->result = e ? (uintptr_t)e | MARK : dated(is_missing, g->clock);
-    if (e) return;
+    if (e) {
+        atomic_fetch_add_explicit(&g->cache->stale, 1, memory_order_relaxed);
+        return;
+    }
     bool is_kept = l->ttl > 0 || (l->ttl == 0 && (is_missing ? o->missing_ttl : o->failed_ttl) > 0);
     if (is_kept) e = new_entry(g, code, &failure);
     if (!e && !is_missing) return;
@@ -1110,6 +1117,7 @@ static void run_batch(struct work *w) {
     for (size_t i = 0; i < w->count; i++) {
         struct getting *g = &w->gettings[i];
         if (!g->is_led || g->is_found) continue;
+        g->is_beside = n > 0;
         has_loaded(g, w->loadings[n].code, &w->loadings[n].loaded);
         n++;
     }
@@ -1323,7 +1331,6 @@ static int take(sflight_cache *c, uint64_t result, uint64_t clock, int code, sfl
         leave_entry(c, e);
         return NOT_THERE;
     }
-    if (result & MARK) atomic_fetch_add_explicit(&c->stale, 1, memory_order_relaxed);
     *value = (sflight_value){e->value, e, NULL};
     return result & MARK ? SFLIGHT_CACHE_STALE : code;
 }
@@ -1586,6 +1593,7 @@ bool sflight_cache_forget_if(sflight_cache *c, const sflight_value *value) {
     pthread_mutex_lock(&s->lock);
     bool is_there = e->place != OUT;
     if (is_there) take_out_by(c, s, hash, e, SFLIGHT_CACHE_FORGOTTEN, &left, from_of(&noted));
+    if (is_there) atomic_fetch_add_explicit(&c->other_forgets, 1, memory_order_relaxed);
     /* A call that is about to be settled with it can be joined still. */
     for (struct getting *g = s->loading; g; g = g->next) {
         if (g->kept == (uintptr_t)e) sflight_inside_forget_call(c->pool, g->key, g->len, &g->doing);
@@ -1607,15 +1615,18 @@ void sflight_cache_forget_all(sflight_cache *c) {
     struct noted noted;
     watch(c, &noted);
     atomic_fetch_add(&c->all, 1);
+    unsigned long long closed = 0;
     for (unsigned i = 0; i < c->count; i++) {
         struct shard *s = &c->shards[i];
         struct sflight_entry *left = NULL;
         pthread_mutex_lock(&s->lock);
-        for (struct getting *l = s->loading; l; l = l->next) sflight_do_forget(c->pool, l->key, l->len);
+        for (struct getting *l = s->loading; l; l = l->next, closed++) sflight_do_forget(c->pool, l->key, l->len);
         empty(c, s, SFLIGHT_CACHE_FORGOTTEN, &left, from_of(&noted));
         pthread_mutex_unlock(&s->lock);
         leave_all(c, left);
     }
+    /* It is one Forget. */
+    atomic_fetch_add_explicit(&c->other_forgets, 1 - closed, memory_order_relaxed);
 }
 
 /* Puts. */
@@ -1751,7 +1762,7 @@ sflight_cache_stats sflight_cache_statistics(sflight_cache *c) {
     const sflight_stats pool = sflight_do_statistics(c->pool);
     uint64_t repeats = atomic_load(&c->repeats);
     sflight_cache_stats stats = {
-        .joins = pool.joins > repeats ? pool.joins - repeats : 0, .forgets = pool.forgets, .in_use = pool.in_use,
+        .joins = pool.joins > repeats ? pool.joins - repeats : 0, .forgets = pool.forgets + atomic_load(&c->other_forgets), .in_use = pool.in_use,
         .hits = atomic_load(&c->hits), .misses = atomic_load(&c->misses), .stale = atomic_load(&c->stale)};
     count_seats(c, &stats);
     for (unsigned i = 0; i < c->count; i++) {

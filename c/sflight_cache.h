@@ -168,28 +168,28 @@ typedef struct sflight_cache_token {
     uint32_t forgets;
 } sflight_cache_token;
 
-/* The load times are counted by powers of 4: bucket i has those below 4^i microseconds, and the last
- * one the rest, from 67 seconds on. */
+/* The load times are counted by powers of 4: bucket i has those up to 4^i microseconds, and the last
+ * one the rest, above 67 seconds. */
 #define SFLIGHT_CACHE_BUCKETS 15u
 
 /* The counts of a cache since it was opened. The names mean the same in each package. */
 typedef struct sflight_cache_stats {
     uint64_t hits;        /* gets that found a value, or a kept failure */
     uint64_t misses;      /* gets that found none: each loaded, or joined */
-    uint64_t loads;       /* keys that were loaded, also in the background */
-    uint64_t failures;    /* loads that failed; not those that found nothing */
+    uint64_t loads;       /* keys that were loaded, each of a batch, also in the background; not those of puts */
+    uint64_t failures;    /* those of these that failed; not those that found nothing */
     uint64_t joins;       /* gets that joined the load of another thread */
-    uint64_t forgets;     /* keys that were forgotten or put, and those that a Forget of all found loading */
+    uint64_t forgets;     /* Forgets of a key, of a tag and of all, puts, and Forgets of one value that forgot */
     uint64_t refreshes;   /* loads in the background, since a value was due */
-    uint64_t stale;       /* gets that returned an old value since its load had failed */
+    uint64_t stale;       /* loads that failed, in whose place an old value was returned */
     uint64_t evictions;   /* values that left the cache to make room */
     uint64_t expirations; /* values that left the cache past their time */
     uint64_t entries;     /* how many values and kept failures there are now */
     uint64_t weight;      /* the sum of their weights, which is never more than the limit */
     uint64_t limit;
     uint64_t in_use;      /* loads that run now: calls that are led and not settled */
-    uint64_t load_time;   /* nanoseconds of all loads together */
-    uint64_t load_times[SFLIGHT_CACHE_BUCKETS]; /* how many loads took so long */
+    uint64_t load_time;   /* nanoseconds of all loads together; that of a batch counts once */
+    uint64_t load_times[SFLIGHT_CACHE_BUCKETS]; /* how many loads took so long; one of a batch is one */
 } sflight_cache_stats;
 
 /* Opens a cache. An entry takes at most 120 bytes beside its key and value, with a lifetime too: about

@@ -450,7 +450,9 @@ func (f *fill[K, V]) put(
 	a := asking{key: name, stop: ended}
 	f.p.asks(&a)
 	if !a.leads {
-		f.p.parts(&a)
+		if f.p.parts(&a) {
+			f.values.countsOf(n.print).repeats.Add(1)
+		}
 		return false, nil
 	}
 	return f.settle(&a, n, last, number)

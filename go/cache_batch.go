@@ -251,7 +251,11 @@ func (b *batch[K, V]) missing() (keys []K) {
 
 func (b *batch[K, V]) loads(ctx context.Context, keys []K) {
 	for _, k := range b.led {
-		if rec := k.record(); rec != nil && !k.isOver {
+		if k.isOver {
+			continue
+		}
+		b.c.room.countsOf(k.print).loads.Add(1)
+		if rec := k.record(); rec != nil {
 			rec.begins()
 		}
 	}
@@ -273,7 +277,7 @@ func (b *batch[K, V]) loads(ctx context.Context, keys []K) {
 	}
 }
 
-// call calls the batch loader, which is counted as one load.
+// call calls the batch loader. Its time is counted once.
 func (b *batch[K, V]) call(ctx context.Context, keys []K, born instant) (map[K]Loaded[V], error) {
 	counts := b.c.room.countsOf(b.led[0].print)
 	if b.c.cost != nil {
@@ -284,7 +288,12 @@ func (b *batch[K, V]) call(ctx context.Context, keys []K, born instant) (map[K]L
 	failed := true
 	defer func() {
 		b.took = b.c.since(born)
-		counts.loaded(b.took, failed)
+		counts.timed(b.took)
+		for _, k := range b.led {
+			if failed && !k.isOver {
+				b.c.room.countsOf(k.print).errors.Add(1)
+			}
+		}
 	}()
 	values, err := b.load(ctx, keys)
 	failed = err != nil && !errors.Is(err, ErrNotFound)
@@ -326,6 +335,9 @@ func (b *batch[K, V]) join(ctx context.Context, k *batchKey[K, V]) {
 			k.to.Value, k.to.Err = valueOf(n), r.Err
 			return
 		}
+	}
+	if !k.isCrowded {
+		b.c.room.countsOf(k.print).repeats.Add(1)
 	}
 	n, err := k.loading.get(ctx, b.noted)
 	k.to.Value, k.to.Err = valueOf(n), err

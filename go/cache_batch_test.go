@@ -7,6 +7,7 @@ import (
 	"strings"
 	"sync/atomic"
 	"testing"
+	"time"
 )
 
 // A cache whose batch loader has this body, which is told of each key list.
@@ -37,6 +38,42 @@ func texts(got []Got[int]) string {
 	return strings.Join(all, ", ")
 }
 
+// The Rust and C packages have a test with these calls and numbers.
+func TestCacheCountsMeanTheSame(t *testing.T) {
+	var clock testClock
+	fails := false
+	c := newBatches(t, func(_ context.Context, keys []string) (map[string]Loaded[int], error) {
+		if fails {
+			return nil, errDown
+		}
+		return numbers(keys), nil
+	}, WithTTL(10*time.Second), WithStaleIfError(20*time.Second), WithClock(clock.time))
+	mustGet(t, c, "key-1", -1)
+	mustGet(t, c, "key-1", -1)
+	if got := texts(c.GetMany(always, []string{"key-1", "key-2", "key-3"})); got != "-1, 2, 3" {
+		t.Error("a batch", got)
+	}
+	c.Put("key-4", 4)
+	c.Forget("key-4")
+	if _, stamp, err := c.GetStamped(always, "key-2"); err != nil || !c.ForgetIf("key-2", stamp) || c.ForgetIf("key-2", stamp) {
+		t.Error("one of the two forgets", err)
+	}
+	c.ForgetTag("tag")
+	clock.pass(10 * time.Second)
+	fails = true
+	if got := texts(c.GetMany(always, []string{"key-1", "key-1"})); got != "-1, -1" {
+		t.Error("it is stale", got)
+	}
+	c.ForgetAll()
+	st, timed := c.Stats(), uint64(0)
+	for _, count := range st.LoadTimes {
+		timed += count
+	}
+	if st.Loads != 4 || st.Errors != 1 || st.Stale != 1 || st.Forgets != 5 || timed != 3 {
+		t.Errorf("its numbers: %+v", st)
+	}
+}
+
 // A batch finds what is there, loads the rest by one call, each key once, and keeps it.
 func TestCacheGetMany(t *testing.T) {
 	var loads []string
@@ -64,7 +101,7 @@ func TestCacheGetMany(t *testing.T) {
 		t.Error("nobody has asked for it")
 	}
 	st := c.Stats()
-	if st.Loads != 2 || st.Errors != 0 || st.Hits != 3 || st.Misses != 5 || st.InUse != 0 {
+	if st.Loads != 4 || st.Errors != 0 || st.Hits != 3 || st.Misses != 5 || st.InUse != 0 {
 		t.Errorf("its numbers: %+v", st)
 	}
 	one := newCache(t, 10, number)
@@ -168,7 +205,7 @@ func testGetManyBreaks(t *testing.T, how string, leaves bool) {
 		}
 	}
 	until(t, "nothing is open", func() bool { return c.Stats().InUse == 0 })
-	if st := c.Stats(); st.Errors != 1 || st.Values != 0 {
+	if st := c.Stats(); st.Loads != 2 || st.Errors != 2 || st.Values != 0 {
 		t.Errorf("its numbers: %+v", st)
 	}
 	mustGet(t, c, "key-1", -1)

@@ -387,7 +387,7 @@ func TestCacheRefreshIsOne(t *testing.T) {
 	}
 	// Another refresh would join the load, in a goroutine of its own.
 	time.Sleep(50 * time.Millisecond)
-	if st := c.Stats(); st.Loads != 1 || st.Calls.Loads != 2 || st.Joins != 0 || st.Hits != 101 || loads.Load() != 2 {
+	if st := c.Stats(); st.Loads != 2 || st.Calls.Loads != 2 || st.Joins != 0 || st.Hits != 101 || loads.Load() != 2 {
 		t.Errorf("one load: %+v", st)
 	}
 	close(release)
@@ -403,6 +403,24 @@ func tagsApart(all *tags) (a, b, c string) {
 			return a, b, c
 		}
 	}
+}
+
+// A refresh that meets an open call of the key lets go of it, which is no Get that joined.
+func TestCacheRefreshThatHasJoined(t *testing.T) {
+	o := newCounting(t, 10, WithRefreshAfter(time.Minute))
+	mustGet(t, o.Cache, "key", 1)
+	o.pass(time.Minute)
+	opened, release := make(chan struct{}), make(chan struct{})
+	go o.now.Load().p.doBehind(always, o.kind.name("key"), func(context.Context, *asking) (any, error) {
+		close(opened)
+		<-release
+		return nil, errAgain
+	})
+	<-opened
+	mustGet(t, o.Cache, "key", 1)
+	until(t, "the refresh has joined", func() bool { st := o.Stats(); return st.Calls.Joins == 1 && st.Joins == 0 })
+	close(release)
+	until(t, "all has ended", func() bool { return o.Stats().InUse == 0 })
 }
 
 // A tag forgets all values that have it, in whatever way they came, and no others.

@@ -56,6 +56,7 @@ func (l loading[K, V]) get(ctx context.Context, noted uint64) (n *node[K, V], er
 		if isFor {
 			break
 		}
+		l.c.room.countsOf(l.print).repeats.Add(1)
 	}
 	if ctx.Done() == nil {
 		// No other goroutine has it. It keeps nothing alive while nobody uses it.
@@ -84,13 +85,19 @@ func (l *loading[K, V]) run(ctx context.Context, a *asking) (any, error) {
 	if l.old != nil {
 		counts.refreshes.Add(1)
 	}
+	counts.loads.Add(1)
 	born := c.room.lives.clock()
 	if c.cost != nil {
 		// A Put may ask for its cost meanwhile, until this load has ended.
 		c.room.begunOf(l.print).Add(1)
 	}
 	failed := true
-	defer func() { counts.loaded(c.since(born), failed) }()
+	defer func() {
+		counts.timed(c.since(born))
+		if failed {
+			counts.errors.Add(1)
+		}
+	}()
 	if rec := a.record(); rec != nil {
 		rec.begins()
 	}
@@ -218,6 +225,8 @@ func (c *Cache[K, V]) refresh(ctx context.Context, f *fill[K, V], n *node[K, V],
 	spawn(func() {
 		// Where the value is replaced, nobody looks at it any more.
 		defer n.release()
-		f.p.doBehind(detached{ctx}, name, l.run)
+		if f.p.doBehind(detached{ctx}, name, l.run) {
+			c.room.countsOf(n.print).repeats.Add(1)
+		}
 	})
 }

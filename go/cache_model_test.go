@@ -766,7 +766,8 @@ func (m *modelCache) resyncs() {
 		}
 	}
 	st := m.Stats()
-	m.want.Hits, m.want.Misses, m.want.Loads, m.want.Errors, m.want.Stale = st.Hits, st.Misses, st.Loads, st.Errors, st.Stale
+	m.want.Hits, m.want.Misses, m.want.Errors, m.want.Stale = st.Hits, st.Misses, st.Errors, st.Stale
+	m.want.Loads = st.Loads - uint64(len(m.jobs))
 	m.recorded = m.records
 }
 
@@ -790,10 +791,10 @@ func (m *modelCache) counted() {
 	if len(m.loaded) == 0 {
 		return
 	}
-	m.want.Loads++
+	m.want.Loads += uint64(len(m.loaded))
 	m.recorded += len(m.loaded)
 	if err := m.known[m.loaded[0]].err; err != nil && !errors.Is(err, ErrNotFound) {
-		m.want.Errors++
+		m.want.Errors += uint64(len(m.loaded))
 	}
 }
 
@@ -1092,7 +1093,7 @@ func (m *modelCache) hasLeft(mayMakeRoom, isEnd bool) {
 func (m *modelCache) check() {
 	m.hasLeft(m.isShort(), false)
 	st, want := m.Stats(), m.want
-	if st.Hits != want.Hits || st.Misses != want.Misses || st.Loads != want.Loads || st.Errors != want.Errors ||
+	if st.Hits != want.Hits || st.Misses != want.Misses || st.Loads != want.Loads+uint64(len(m.jobs)) || st.Errors != want.Errors ||
 		st.Refreshes != want.Refreshes || st.Stale != want.Stale || st.Forgets != want.Forgets || st.LeftFor != want.LeftFor ||
 		st.Joins != 0 || st.InUse != uint64(len(m.jobs)) || m.records != m.recorded {
 		m.fail("its numbers: %+v, not %+v; %d jobs; recorded %d, %d", st, want, len(m.jobs), m.records, m.recorded)

@@ -30,7 +30,8 @@ type counts struct {
 	refreshes atomic.Uint64
 	stale     atomic.Uint64
 	forgets   atomic.Uint64 // of tags, and of all
-	_         [32]byte      // to whole cache lines
+	repeats   atomic.Uint64 // calls that were joined, and not by a Get for good
+	_         [24]byte      // to whole cache lines
 }
 
 func (r *room) countsOf(print uint32) *counts {
@@ -73,12 +74,8 @@ func bucketOf(took time.Duration) int {
 	return bucket
 }
 
-// loaded counts a load function that has ended.
-func (n *counts) loaded(took time.Duration, failed bool) {
-	n.loads.Add(1)
-	if failed {
-		n.errors.Add(1)
-	}
+// timed counts how long a load function took.
+func (n *counts) timed(took time.Duration) {
 	if took < 0 {
 		took = 0
 	}
@@ -90,12 +87,12 @@ func (n *counts) loaded(took time.Duration, failed bool) {
 type CacheStats struct {
 	Hits        uint64 // Gets and GetIfPresents that found a value, or a kept error
 	Misses      uint64 // and those that found none
-	Loads       uint64 // load functions that have ended; one of a batch is one
-	Errors      uint64 // those that failed, panicked or ended their goroutine
+	Loads       uint64 // keys that were loaded, each of a batch, also in the background; not those of Puts
+	Errors      uint64 // those of these whose load failed, panicked or ended its goroutine
 	Joins       uint64 // Gets that waited for the load of another
-	Forgets     uint64 // Forgets, ForgetIfs that forgot, Puts, ForgetTags and ForgetAlls
+	Forgets     uint64 // Forgets of a key, of a tag and of all, Puts, and ForgetIfs that forgot
 	Refreshes   uint64 // loads that were begun to replace a value that was still returned
-	Stale       uint64 // loads in place of whose error a value stood in
+	Stale       uint64 // loads that failed, in whose place an old value was returned
 	Kept        uint64 // values that came into the cache
 	Left        uint64 // those that left it
 	Evictions   uint64 // those of these that made room for others
@@ -106,8 +103,8 @@ type CacheStats struct {
 	InUse       uint64 // load functions that run, also those of forgotten calls
 
 	LeftFor   [5]uint64               // the values that left, by their Reason
-	LoadTime  time.Duration           // how long all loads took together
-	LoadTimes [LoadTimeBuckets]uint64 // how many took how long: see LoadTimeBound
+	LoadTime  time.Duration           // how long all loads took together; that of a batch counts once
+	LoadTimes [LoadTimeBuckets]uint64 // how many took how long, one of a batch as one: see LoadTimeBound
 
 	Calls Stats // of the calls by which it loads; each Put is one too
 }
@@ -116,7 +113,7 @@ type CacheStats struct {
 // different moments.
 func (c *Cache[K, V]) Stats() CacheStats {
 	st := CacheStats{Limit: c.Limit()}
-	var found, forgets uint64
+	var found, forgets, repeats uint64
 	// What leaves was counted before as kept.
 	for i := range c.room.counts {
 		n := &c.room.counts[i]
@@ -127,6 +124,7 @@ func (c *Cache[K, V]) Stats() CacheStats {
 		st.Stale += n.stale.Load()
 		found += n.found.Load()
 		forgets += n.forgets.Load()
+		repeats += n.repeats.Load()
 		st.LoadTime += time.Duration(n.took.Load())
 		for i := range n.times {
 			st.LoadTimes[i] += n.times[i].Load()
@@ -152,7 +150,8 @@ func (c *Cache[K, V]) Stats() CacheStats {
 		st.Hits, st.Misses = st.Hits+found, st.Misses-found
 	}
 	st.Calls = c.calls()
-	st.Joins, st.InUse, st.Forgets = st.Calls.Joins, st.Calls.InUse, st.Calls.Forgets+forgets
+	// Each was counted as a join before.
+	st.Joins, st.InUse, st.Forgets = st.Calls.Joins-repeats, st.Calls.InUse, st.Calls.Forgets+forgets
 	return st
 }
 

@@ -180,12 +180,11 @@ func (p *core) leadContext(ctx context.Context, a *asking, fn loadFunc) (Result,
 
 // doBehind is Do for nobody: it runs fn in this goroutine, unless the key has an open call. A panic of fn is told as one that
 // nobody waits for, unless somebody has joined.
-func (p *core) doBehind(ctx context.Context, key string, fn loadFunc) {
+func (p *core) doBehind(ctx context.Context, key string, fn loadFunc) (joined bool) {
 	a := &asking{key: key, stop: ended}
 	p.asks(a)
 	if !a.leads {
-		p.parts(a)
-		return
+		return p.parts(a)
 	}
 	a.over = make(chan struct{})
 	p.table.share(a)
@@ -193,14 +192,20 @@ func (p *core) doBehind(ctx context.Context, key string, fn loadFunc) {
 	a.call.isBehind = true
 	a.call.mu.Unlock()
 	p.lead(new(Result), a, func() (any, error) { return fn(ctx, a) })
+	return false
 }
 
-// parts lets go of a call that was joined, whose result nobody wants. One that was crowded was not joined.
-func (p *core) parts(a *asking) {
-	if a.call != nil && !p.gives(a) {
+// parts lets go of a call that was joined, whose result nobody wants, and tells whether there is one: where the call was crowded, none was
+// joined.
+func (p *core) parts(a *asking) bool {
+	if a.call == nil {
+		return false
+	}
+	if !p.gives(a) {
 		p.takes(new(Result), a)
 		a.enters(false)
 	}
+	return true
 }
 
 // doChan is Do for a caller that does not wait: it has asked when this returns. What tell is called with is the result. As in

@@ -1092,7 +1092,7 @@ static void test_passes(void) {
 
 static void test_times(void) {
     begin(usual);
-    const int64_t takes[] = {999, 1000, 3999, 4000, INT64_C(67108864000) - 1, INT64_C(67108864000)};
+    const int64_t takes[] = {1000, 1001, 4000, 4001, INT64_C(67108864000), INT64_C(67108864000) + 1};
     const unsigned buckets[] = {0, 1, 1, 2, 13, 14};
     sflight_cache_stats before = stats();
     for (int i = 0; i < 6; i++) {
@@ -1105,6 +1105,38 @@ static void test_times(void) {
         before = after;
     }
     check(before.limit == 1000 && before.weight == 1 && before.entries == 1, "the other counts");
+    end("all are dropped");
+}
+
+/* The Go and Rust packages have a test with these calls and numbers. */
+static void test_counts_of_each_package(void) {
+    static const char *const batch[] = {"a", "b", "c"}, *const twice[] = {"a", "a"};
+    sflight_cache_options o = usual;
+    sflight_value b;
+    o.ttl = 10;
+    o.stale_if_error = 20;
+    o.load_many = load_batch;
+    begin(o);
+    check(gets("a", SFLIGHT_CACHE_LOADED, 1) && gets("a", SFLIGHT_CACHE_HIT, 1), "a key is loaded, and found");
+    get_items_of(batch, 3, NULL);
+    check(item_is(0, SFLIGHT_CACHE_HIT, 1) && item_is(1, SFLIGHT_CACHE_LOADED, 2) && item_is(2, SFLIGHT_CACHE_LOADED, 3), "a batch loads two more");
+    release_items(3);
+    check(put("d"), "a put");
+    forget("d");
+    check(sflight_cache_peek(plan.cache, (const uint8_t *)"b", 1, &b), "a value");
+    check(sflight_cache_forget_if(plan.cache, &b) && !sflight_cache_forget_if(plan.cache, &b), "is forgotten once");
+    sflight_cache_release(plan.cache, &b);
+    forget_t();
+    pass(10);
+    plan.fails = "a";
+    get_items_of(twice, 2, NULL);
+    check(item_is(0, SFLIGHT_CACHE_STALE, 1) && item_is(1, SFLIGHT_CACHE_STALE, 1), "a load that fails has an old value for two");
+    release_items(2);
+    forget_all();
+    sflight_cache_stats s = stats();
+    uint64_t timed = 0;
+    for (unsigned i = 0; i < SFLIGHT_CACHE_BUCKETS; i++) timed += s.load_times[i];
+    check(s.loads == 4 && s.failures == 1 && s.stale == 1 && s.forgets == 5 && timed == 3, "the counts");
     end("all are dropped");
 }
 
@@ -1225,6 +1257,7 @@ int main(void) {
     test_resize();
     test_passes();
     test_times();
+    test_counts_of_each_package();
     test_wrong_options();
     test_holds();
     test_found_without_a_place();

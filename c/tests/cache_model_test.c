@@ -126,6 +126,8 @@ static struct call own_calls[KEYS], *led[KEYS]; /* by the step, or by the work t
 static int ran[MOST_RAN], ran_count; /* the loads that ran in this step */
 static bool is_quiet; /* loads do nothing meanwhile */
 static sflight_cache_stats counted; /* what the counts are to be */
+static uint64_t timed;              /* load functions that have ended: one of a batch is one */
+static uint64_t most_stale;         /* counted.stale is the least: by the jitter a value may be just too old */
 static uint64_t seen_of[8]; /* how often each kind of thing came */
 static struct { sflight_value value; int number; } held[MOST_HELD];
 static int held_count;
@@ -354,15 +356,20 @@ static int load_begins(int key, sflight_cache_loaded *loaded) {
     return number;
 }
 
-static int load_ends(int number) {
+static int load_ends(int number, bool is_beside) {
     struct known *of = &known[number];
     of->is_running = false;
     counted.loads++;
     counted.failures += of->kind == SFLIGHT_CACHE_FAILED;
-    counted.load_time += (uint64_t)(steady - of->steady);
+    if (!is_beside) counted.load_time += (uint64_t)(steady - of->steady);
+    timed += !is_beside;
     of->is_closed = led[of->key]->is_closed;
     of->at_end = model[of->key];
     worth_of(of->at_end, &of->worst_at_end, &of->best_at_end);
+    if (of->kind == SFLIGHT_CACHE_FAILED && of->at_end != NOBODY && known[of->at_end].kind == SFLIGHT_CACHE_LOADED) {
+        counted.stale += of->worst_at_end >= STALE && !is_tight;
+        most_stale += of->best_at_end >= STALE;
+    }
     return of->kind;
 }
 
@@ -370,7 +377,7 @@ static int load(void *context, const uint8_t *key, size_t len, sflight_cache_loa
     int number = load_begins(key_number(key, len), loaded);
     check(context == &options, "the context");
     meanwhile();
-    return load_ends(number);
+    return load_ends(number, false);
 }
 
 static int load_other(void *context, const uint8_t *key, size_t len, sflight_cache_loaded *loaded) {
@@ -386,7 +393,7 @@ static void load_many(void *context, sflight_cache_loading *loadings, size_t cou
     meanwhile();
     for (size_t i = 0; i < count; i++) {
         /* A key of which it says nothing does not exist. */
-        int code = load_ends(numbers[i]);
+        int code = load_ends(numbers[i], i > 0);
         if (code != SFLIGHT_CACHE_MISSING) loadings[i].code = code;
     }
 }
@@ -542,7 +549,6 @@ static void judge_load(const struct before *before, int code, int got, int numbe
     case SFLIGHT_CACHE_LOADED: check(got == number && of->kind == code, "the loaded value"); break;
     case SFLIGHT_CACHE_STALE:
         check(of->kind == SFLIGHT_CACHE_FAILED && got == of->at_end && of->best_at_end >= STALE, "a stale value that may be returned");
-        counted.stale++;
         seen_of[3]++;
         break;
     case SFLIGHT_CACHE_NO_MEMORY: check(was_refused, "there was no memory to keep it"); break;
@@ -634,7 +640,6 @@ static void get_many(bool is_apart) {
         if (is_again && !is_hit && ran_of(all[i]) != NOBODY) {
             check(items[i].code == SFLIGHT_CACHE_JOINED || got != ran_of(all[i]) || was_refused, "a key that stands there twice joins itself");
             counted.misses++;
-            counted.stale += items[i].code == SFLIGHT_CACHE_STALE;
             joins++;
             if (got != NOBODY) has(&items[i].value, got);
             continue;
@@ -680,6 +685,7 @@ static void forget_if(int key) {
     if (!sflight_cache_peek(cache, key_at(key), keys[key].len, &value)) return;
     forgets_of_key[key]++;
     is_forgetting[key]++;
+    counted.forgets++;
     check(sflight_cache_forget_if(cache, &value) && !sflight_cache_forget_if(cache, &value), "a value is forgotten once");
     is_forgetting[key]--;
     has_no_value(key, "the value is out");
@@ -689,6 +695,7 @@ static void forget_if(int key) {
 static void forget_tag(void) {
     int tag = (int)random_below(TAGS);
     tag_ended[tag] = any_tag_ended = ++step;
+    counted.forgets++;
     sflight_cache_forget_tag(cache, (const uint8_t *)tag_names[tag], strlen(tag_names[tag]));
     /* Without memory for their ages it ends all tags. */
     for (int i = 0; i < TAGS && !atomic_load(&cache->ages); i++) tag_ended[i] = step;
@@ -700,7 +707,7 @@ static void forget_all(void) {
     for (int i = 0; i < ran_count; i++) if (known[ran[i]].is_running) close_calls(known[ran[i]].key);
     for (int i = 0; i < KEYS; i++) is_forgetting[i]++;
     sflight_cache_forget_all(cache);
-    counted.forgets = sflight_cache_statistics(cache).forgets;
+    counted.forgets++;
     for (int i = 0; i < KEYS; i++) {
         is_forgetting[i]--;
         has_no_value(i, "a Forget of all takes each value out");
@@ -814,8 +821,10 @@ static void check_counts(void) {
     check(stats.entries == entries && stats.weight == weight && sflight_cache_len(cache) == entries, "how many there are, and what they weigh");
     check(stats.weight <= stats.limit, "no more than the limit");
     check(stats.hits == counted.hits && stats.misses == counted.misses, "hits and misses");
-    check(stats.loads == counted.loads && times == counted.loads && stats.failures == counted.failures, "loads and failures");
-    check(stats.joins == counted.joins && stats.refreshes == counted.refreshes && stats.stale == counted.stale, "joins, refreshes, stale values");
+    check(stats.loads == counted.loads && times == timed && stats.failures == counted.failures, "loads and failures");
+    check(stats.joins == counted.joins && stats.refreshes == counted.refreshes, "joins and refreshes");
+    check(stats.stale >= counted.stale && stats.stale <= most_stale, "stale values");
+    counted.stale = most_stale = stats.stale;
     check(stats.evictions == counted.evictions && stats.expirations == counted.expirations, "evictions and expirations");
     check(stats.in_use == calls && stats.load_time == counted.load_time && stats.forgets == counted.forgets, "calls, Forgets and the time of loads");
 }
@@ -867,6 +876,7 @@ static void open_play(uint64_t number) {
     step = any_tag_ended = forgets_of_all = 0;
     is_closing = false;
     counted = (sflight_cache_stats){0};
+    timed = most_stale = 0;
     memset(tag_ended, 0, sizeof tag_ended);
     memset(forgets_of_key, 0, sizeof forgets_of_key);
     cache = sflight_cache_open(&options);

@@ -53,12 +53,12 @@ func MeasureCache(source CacheSource) (all []Measurement) {
 	for _, it := range []Measurement{
 		{Name: "hits", Description: "Gets that found a value, or a kept error.", Value: float64(n.Hits)},
 		{Name: "misses", Description: "Gets that found none.", Value: float64(n.Misses)},
-		{Name: "loads", Description: "Load functions that have ended.", Value: float64(n.Loads)},
-		{Name: "errors", Description: "Load functions that failed or panicked.", Value: float64(n.Errors)},
+		{Name: "loads", Description: "Keys that were loaded.", Value: float64(n.Loads)},
+		{Name: "errors", Description: "Keys whose load failed or panicked.", Value: float64(n.Errors)},
 		{Name: "joins", Description: "Gets that waited for the load of another.", Value: float64(n.Joins)},
-		{Name: "forgets", Description: "Forgets of keys, tags and all, and Puts.", Value: float64(n.Forgets)},
+		{Name: "forgets", Description: "Forgets of keys, values, tags and all, and Puts.", Value: float64(n.Forgets)},
 		{Name: "refreshes", Description: "Loads that were begun behind a Get.", Value: float64(n.Refreshes)},
-		{Name: "stale", Description: "Errors in whose place a stale value stood.", Value: float64(n.Stale)},
+		{Name: "stale", Description: "Loads that failed, in whose place an old value was returned.", Value: float64(n.Stale)},
 		{Name: "load.time", Unit: "s", Description: "How long load functions took together.",
 			Value: n.LoadTime.Seconds()},
 	} {

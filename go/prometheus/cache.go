@@ -31,12 +31,12 @@ type cacheMetric struct {
 //
 //	singleflight_cache_hits_total       Gets that found a value, or a kept error
 //	singleflight_cache_misses_total     Gets that found none
-//	singleflight_cache_loads_total      load functions that have ended
-//	singleflight_cache_errors_total     load functions that failed or panicked
+//	singleflight_cache_loads_total      keys that were loaded
+//	singleflight_cache_errors_total     keys whose load failed or panicked
 //	singleflight_cache_joins_total      Gets that waited for the load of another
-//	singleflight_cache_forgets_total    Forgets of keys, tags and all, and Puts
+//	singleflight_cache_forgets_total    Forgets of keys, values, tags and all, and Puts
 //	singleflight_cache_refreshes_total  loads that were begun behind a Get
-//	singleflight_cache_stale_total      errors in whose place a stale value stood
+//	singleflight_cache_stale_total      loads that failed, in whose place an old value was returned
 //	singleflight_cache_evictions_total  values that left, by the label reason
 //	singleflight_cache_entries          values that are in the cache
 //	singleflight_cache_weight           what they cost together
@@ -63,16 +63,16 @@ func NewCacheCollector(source CacheSource) prometheus.Collector {
 	counter("hits", "Gets that found a value, or a kept error.",
 		func(n singleflight.CacheStats) uint64 { return n.Hits })
 	counter("misses", "Gets that found none.", func(n singleflight.CacheStats) uint64 { return n.Misses })
-	counter("loads", "Load functions that have ended.", func(n singleflight.CacheStats) uint64 { return n.Loads })
-	counter("errors", "Load functions that failed or panicked.",
+	counter("loads", "Keys that were loaded.", func(n singleflight.CacheStats) uint64 { return n.Loads })
+	counter("errors", "Keys whose load failed or panicked.",
 		func(n singleflight.CacheStats) uint64 { return n.Errors })
 	counter("joins", "Gets that waited for the load of another.",
 		func(n singleflight.CacheStats) uint64 { return n.Joins })
-	counter("forgets", "Forgets of keys, tags and all, and Puts.",
+	counter("forgets", "Forgets of keys, values, tags and all, and Puts.",
 		func(n singleflight.CacheStats) uint64 { return n.Forgets })
 	counter("refreshes", "Loads that were begun behind a Get.",
 		func(n singleflight.CacheStats) uint64 { return n.Refreshes })
-	counter("stale", "Errors in whose place a stale value stood.",
+	counter("stale", "Loads that failed, in whose place an old value was returned.",
 		func(n singleflight.CacheStats) uint64 { return n.Stale })
 	gauge("entries", "Values that are in the cache.",
 		func(n singleflight.CacheStats) float64 { return float64(n.Values) })

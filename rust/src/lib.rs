@@ -237,7 +237,7 @@ pub struct Stats {
     pub loads: u64,
     /// Calls that joined another's, including those that left it.
     pub joins: u64,
-    /// Forgets of a key, and of one call, whatever they found.
+    /// Forgets of a key, whatever they found, and those of one call that forgot it.
     pub forgets: u64,
     /// Calls that were led and are not settled: loads that run now. Those that wait are not
     /// counted.

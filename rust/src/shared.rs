@@ -200,8 +200,12 @@ impl<T> Shared<T> {
     }
 
     /// Forgets by a handle, again where others were quicker in each try.
-    fn forgets<R>(&self, forget: impl Fn(&mut Handle) -> Result<R, Busy>) -> R {
-        self.forgets_until(|| self.tries_to_forget(&forget))
+    fn forgets<R>(
+        &self,
+        forget: impl Fn(&mut Handle) -> Result<R, Busy>,
+        counts: impl Fn(&R) -> bool,
+    ) -> R {
+        self.forgets_until(|| self.tries_to_forget(&forget, &counts))
     }
 
     fn forgets_until<R>(&self, try_once: impl Fn() -> Result<R, Busy>) -> R {
@@ -219,10 +223,11 @@ impl<T> Shared<T> {
     fn tries_to_forget<R>(
         &self,
         forget: impl Fn(&mut Handle) -> Result<R, Busy>,
+        counts: impl Fn(&R) -> bool,
     ) -> Result<R, Busy> {
         self.places.with(|seat| {
             let forgot = forget(&mut seat.handle);
-            seat.forgets += u64::from(forgot.is_ok());
+            seat.forgets += u64::from(forgot.as_ref().is_ok_and(counts));
             forgot
         })
     }
@@ -232,7 +237,7 @@ impl<T> Shared<T> {
     fn forget_of_cache(&self, key: &[u8], noted: &Noted) -> bool {
         self.forgets_until(|| {
             let locked = noted.locks(key);
-            let closed = self.tries_to_forget(|handle| handle.forget(key))?;
+            let closed = self.tries_to_forget(|handle| handle.forget(key), |_| true)?;
             locked.into_iter().for_each(|locked| locked.forgot(closed));
             Ok(closed.is_some())
         })
@@ -245,7 +250,7 @@ impl<T> Shared<T> {
             return self.forget_of_cache(key, &noted);
         }
         let forgetting = noted.map(|noted| noted.forgetting(false));
-        let closed = self.forgets(|handle| handle.forget(key));
+        let closed = self.forgets(|handle| handle.forget(key), |_| true);
         match (closed, forgetting) {
             (Some(id), forgetting) => self.recordings.closed(forgetting, id),
             (None, Some(forgetting)) => forgetting.found_nothing(key),
@@ -258,14 +263,14 @@ impl<T> Shared<T> {
     pub(crate) fn forget_call(&self, key: &[u8], call: Call) -> ForgetOutcome {
         if call.stamp.is_none() {
             // It was forgotten before it was settled.
-            self.places.with(|seat| seat.forgets += 1);
             return ForgetOutcome::Missed;
         }
         let forgetting = self.recordings.forgetting(true);
-        let (was_open, was_still) = self.forgets(|handle| {
+        let forget = |handle: &mut Handle| {
             let was_still = handle.is_still(&call.stamp);
             Ok((handle.forget_call(key, &call)?, was_still))
-        });
+        };
+        let (was_open, was_still) = self.forgets(forget, |it: &(bool, bool)| it.0 || it.1);
         if was_open {
             self.recordings.closed(forgetting, call.id);
             return ForgetOutcome::Closed;

@@ -360,6 +360,29 @@ fn a_stale_value_stands_in_for_an_error() {
     assert_eq!(left(&left_by), ["key 1 Expired"]);
 }
 
+// The Go and C packages have a test with these calls and numbers.
+#[test]
+fn counts_mean_the_same_in_each_package() {
+    let (cache, hand, _) =
+        cache(|builder| builder.time_to_live(seconds(10)).stale_if_error(seconds(20)));
+    cache.try_get_or_load("a", || Ok(1)).unwrap();
+    assert!(found(&cache, "a") == Some(1));
+    let both = |keys: &[&String]| Ok(keys.iter().map(|key| (key.to_string(), 2)).collect::<Vec<_>>());
+    assert_eq!(cache.get_many(["a", "b", "c"], both).len(), 3);
+    cache.insert("d", 3);
+    cache.invalidate("d");
+    let b = cache.get("b").unwrap();
+    assert!(cache.invalidate_if("b", &b) && !cache.invalidate_if("b", &b));
+    cache.invalidate_tag("tag");
+    hand.go_on(10);
+    let got = cache.get_many(["a", "a"], |_| Err::<[(String, u32); 0], _>("no store"));
+    assert!(got.iter().all(|value| value.as_deref() == Ok(&1)), "it is stale");
+    cache.invalidate_all();
+    let stats = cache.stats();
+    assert_eq!((stats.loads, stats.failures, stats.stale, stats.forgets), (4, 1, 1, 5), "{stats:?}");
+    assert_eq!(stats.load_times.iter().sum::<u64>(), 3, "load functions that ran");
+}
+
 #[test]
 fn no_stale_value_is_returned_once_it_is_forgotten() {
     let forgets: [fn(&Values); 4] = [

@@ -4,7 +4,7 @@ use super::entry::{Entry, Life, More, Packed, Rare, What};
 use super::look::{At, Verdict};
 use super::panics::Panics;
 use super::shard::Gone;
-use super::stats::Reason;
+use super::stats::{add, Reason};
 use super::tags::Tag;
 use super::times::{nanoseconds, Born, Moment, Ttl};
 use super::{Fetched, Inner};
@@ -351,7 +351,11 @@ where
         self.forget(&key);
         // The receiver goes with the end of this: nobody waits for it.
         let (_receiver, job) = self.group.subscribe(key.name(key.era));
-        let Some(job) = job else { return false };
+        let Some(job) = job else {
+            add(&self.counts.met);
+            return false;
+        };
+        add(&self.counts.inserts);
         // An invalidation that has begun since may be of a newer write. One that begins from here on
         // ends the call that is led now, so no call that begins after it gets this value.
         point();

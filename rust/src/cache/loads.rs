@@ -499,7 +499,12 @@ where
         let mut refresh = Refresh { cache, key, fingerprint, era, job: None };
         // Where the call is crowded it is open, and its load is as good. A hit does not wait for it.
         let asked = self.group.try_subscribe(bytes_of(era, &refresh.key));
-        refresh.job = asked.ok().and_then(|(_, job)| job);
+        if let Ok((_, job)) = asked {
+            if job.is_none() {
+                add(&self.counts.met);
+            }
+            refresh.job = job;
+        }
         if refresh.job.is_some() {
             self.execute(Box::new(move || refresh.run(|key| loader(key))));
         }

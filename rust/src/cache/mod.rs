@@ -38,7 +38,7 @@ use keep::{Begun, Kept, Left, Since};
 pub use loads::{Fetched, LoadError};
 use loads::{Got, Outcome};
 use shard::{Shard, Yard};
-use stats::Counts;
+use stats::{add, Counts};
 pub use stats::{CacheStats, Reason, Recorder};
 use tags::{tag_of, Tags};
 use times::Eras;
@@ -676,6 +676,7 @@ where
     /// ```
     pub fn invalidate_tag(&self, tag: impl AsRef<[u8]>) {
         let noted = self.0.recordings.noted();
+        add(&self.0.counts.others);
         let (place, number) = self.0.tags.forget(tag_of(tag.as_ref()));
         if let Some(noted) = noted {
             noted.forgot_tag(place, number);
@@ -692,6 +693,7 @@ where
     /// ```
     pub fn invalidate_all(&self) {
         let noted = self.0.recordings.noted();
+        add(&self.0.counts.others);
         point();
         let begin_era = || self.0.era.fetch_add(1, SeqCst);
         match noted {

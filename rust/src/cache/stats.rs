@@ -90,14 +90,15 @@ pub struct CacheStats {
     pub hits: u64,
     /// Gets that found none, and those of [`Cache::get`](crate::Cache::get) too.
     pub misses: u64,
-    /// Calls that were led: each runs its load, unless it is given up before. A refresh is one, and
-    /// each key that a batch loads. [`Cache::insert`](crate::Cache::insert) makes one of its own.
+    /// Keys that were loaded, each of a batch, also in the background, and those whose load was
+    /// given up before it ran. Those of [`Cache::insert`](crate::Cache::insert) do not count.
     pub loads: u64,
-    /// Loads that gave an error.
+    /// Those of these whose load gave an error.
     pub failures: u64,
-    /// Calls that joined another's load.
+    /// Gets that joined another's load.
     pub joins: u64,
-    /// Invalidations of a key. [`Cache::insert`](crate::Cache::insert) makes one too.
+    /// Invalidations of a key, of a tag and of all, inserts, and invalidations of one value that
+    /// was there.
     pub forgets: u64,
     /// Loads that ran in the background to replace a value.
     pub refreshes: u64,
@@ -146,6 +147,12 @@ pub(super) struct Counts {
     pub(super) found: AtomicU64,
     /// And those of refreshes.
     pub(super) spared: AtomicU64,
+    /// Calls that inserts led.
+    pub(super) inserts: AtomicU64,
+    /// Open calls that inserts and refreshes met.
+    pub(super) met: AtomicU64,
+    /// Invalidations of a tag, and of all.
+    pub(super) others: AtomicU64,
     load_time: AtomicU64,
     load_times: [AtomicU64; BOUNDS + 1],
 }
@@ -179,9 +186,9 @@ impl Counts {
         CacheStats {
             hits: hits + found,
             misses: misses - found,
-            loads: loads.saturating_sub(found + read(&self.spared)),
-            joins,
-            forgets,
+            loads: loads.saturating_sub(found + read(&self.spared) + read(&self.inserts)),
+            joins: joins.saturating_sub(read(&self.met)),
+            forgets: forgets + read(&self.others),
             in_use,
             failures: read(&self.failures),
             refreshes: read(&self.refreshes),
