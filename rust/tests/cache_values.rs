@@ -367,7 +367,8 @@ fn counts_mean_the_same_in_each_package() {
         cache(|builder| builder.time_to_live(seconds(10)).stale_if_error(seconds(20)));
     cache.try_get_or_load("a", || Ok(1)).unwrap();
     assert!(found(&cache, "a") == Some(1));
-    let both = |keys: &[&String]| Ok(keys.iter().map(|key| (key.to_string(), 2)).collect::<Vec<_>>());
+    let both =
+        |keys: &[&String]| Ok(keys.iter().map(|key| (key.to_string(), 2)).collect::<Vec<_>>());
     assert_eq!(cache.get_many(["a", "b", "c"], both).len(), 3);
     cache.insert("d", 3);
     cache.invalidate("d");
@@ -379,7 +380,11 @@ fn counts_mean_the_same_in_each_package() {
     assert!(got.iter().all(|value| value.as_deref() == Ok(&1)), "it is stale");
     cache.invalidate_all();
     let stats = cache.stats();
-    assert_eq!((stats.loads, stats.failures, stats.stale, stats.forgets), (4, 1, 1, 5), "{stats:?}");
+    assert_eq!(
+        (stats.loads, stats.failures, stats.stale, stats.forgets),
+        (4, 1, 1, 5),
+        "{stats:?}"
+    );
     assert_eq!(stats.load_times.iter().sum::<u64>(), 3, "load functions that ran");
 }
 
