@@ -99,6 +99,10 @@ fn who_joins_the_call_of_another_key_has_its_own_value() {
         assert_eq!(other.join().unwrap(), 2);
     }
     thread.join().unwrap();
+    // Each of the four gets has loaded, joined or found its own key's value, and counts once.
+    let stats = cache.stats();
+    assert_eq!((stats.hits + stats.misses, stats.loads), (4, 2), "{stats:?}");
+    assert_eq!(stats.misses, stats.loads + stats.joins, "{stats:?}");
 }
 
 // One of them loads it for all, and it is kept; a stale value stands in for an error.

@@ -405,6 +405,7 @@ where
         Q: Eq + ?Sized,
     {
         if outcome.key.borrow() != key.key {
+            add(&self.counts.met);
             return None;
         }
         let is_wanted = wants_missing || !matches!(outcome.got, Got::NotFound);
@@ -412,6 +413,7 @@ where
             key.enters(outcome.record.as_ref());
             return Some(outcome.got.clone());
         }
+        add(&self.counts.met);
         None
     }
 

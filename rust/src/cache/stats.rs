@@ -149,7 +149,7 @@ pub(super) struct Counts {
     pub(super) spared: AtomicU64,
     /// Calls that inserts led.
     pub(super) inserts: AtomicU64,
-    /// Open calls that inserts and refreshes met.
+    /// Calls that inserts and refreshes met, or that gets joined whose value was not for them.
     pub(super) met: AtomicU64,
     /// Invalidations of a tag, and of all.
     pub(super) others: AtomicU64,
