@@ -177,7 +177,7 @@ typedef struct sflight_cache_stats {
     uint64_t hits;        /* gets that found a value, or a kept failure */
     uint64_t misses;      /* gets that found none: each loaded, or joined */
     uint64_t loads;       /* keys that were loaded, each of a batch, also in the background; not those of puts */
-    uint64_t failures;    /* those of these that failed; not those that found nothing */
+    uint64_t failures;    /* keys whose load failed; not those that were missing */
     uint64_t joins;       /* gets that joined the load of another thread */
     uint64_t forgets;     /* Forgets of a key, of a tag and of all, puts, and Forgets of one value that forgot */
     uint64_t refreshes;   /* loads in the background, since a value was due */

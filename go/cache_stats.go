@@ -88,7 +88,7 @@ type CacheStats struct {
 	Hits        uint64 // Gets and GetIfPresents that found a value, or a kept error
 	Misses      uint64 // and those that found none
 	Loads       uint64 // keys that were loaded, each of a batch, also in the background; not those of Puts
-	Errors      uint64 // those of these whose load failed, panicked or ended its goroutine
+	Errors      uint64 // keys whose load failed, panicked or ended its goroutine
 	Joins       uint64 // Gets that waited for the load of another
 	Forgets     uint64 // Forgets of a key, of a tag and of all, Puts, and ForgetIfs that forgot
 	Refreshes   uint64 // loads that were begun to replace a value that was still returned

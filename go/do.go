@@ -195,8 +195,7 @@ func (p *core) doBehind(ctx context.Context, key string, fn loadFunc) (joined bo
 	return false
 }
 
-// parts lets go of a call that was joined, whose result nobody wants, and tells whether there is one: where the call was crowded, none was
-// joined.
+// parts lets go of a call that was joined, whose result nobody wants. It returns false where none was, since the call was crowded.
 func (p *core) parts(a *asking) bool {
 	if a.call == nil {
 		return false

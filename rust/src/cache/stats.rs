@@ -93,7 +93,7 @@ pub struct CacheStats {
     /// Keys that were loaded, each of a batch, also in the background, and those whose load was
     /// given up before it ran. Those of [`Cache::insert`](crate::Cache::insert) do not count.
     pub loads: u64,
-    /// Those of these whose load gave an error.
+    /// Keys whose load gave an error.
     pub failures: u64,
     /// Gets that joined another's load.
     pub joins: u64,
