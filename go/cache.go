@@ -34,7 +34,7 @@ type Cache[K comparable, V any] struct {
 	now      fillPointer[K, V]
 	kind     keyKind[K]
 	load     LoadFunc[K, V]
-	looks    []looks
+	tally    tally
 	gettings *sync.Pool // of *getting[K, V] that are in no use; apart, since the runtime holds pools
 	room     room
 	cost     func(K, V) int64
@@ -175,7 +175,7 @@ func (c *Cache[K, V]) open(limit int64, size *sizes) {
 	c.room.tags.open(entries)
 	c.room.begun = make([]atomic.Uint64, powerFor(entries, fewestClasses, mostClasses))
 	c.room.counts = make([]counts, powerFor(entries/leastOfShard, 1, mostCounts))
-	c.looks = make([]looks, powerFor(entries, 1, mostLooks))
+	c.tally.open(powerFor(entries, 1, mostLooks))
 	if n := slotsFor(limit, hasCosts); size.slots < n {
 		size.slots = n
 	}
@@ -193,7 +193,7 @@ func (c *Cache[K, V]) begin(p *core) {
 	c.now.Store(f)
 }
 
-func (c *Cache[K, V]) printOf(key K) uint32 { return uint32(c.kind.hash(key)) }
+func (c *Cache[K, V]) printOf(key K) uint32 { return c.kind.print(key) }
 
 // Get returns the key's value: the one that is kept, or what the load returns. A load's error is
 // returned with its value, to all who share the load. Neither is kept, but see WithErrorTTL.
@@ -214,13 +214,12 @@ func (c *Cache[K, V]) GetWith(ctx context.Context, key K, load LoadFunc[K, V]) (
 func (c *Cache[K, V]) get(ctx context.Context, key K, load LoadFunc[K, V]) (V, error) {
 	f, print := c.now.Load(), c.printOf(key)
 	w := f.p.watch()
-	n, isDue, gone := f.values.look(key, print, w)
+	n, isDue, gone := f.values.look(key, print, w, &c.tally)
 	if n == nil {
-		c.looked(false)
+		c.tally.missed()
 		n, err := c.miss(ctx, f, key, print, load, gone, w.from)
 		return valueOf(n), err
 	}
-	c.looked(true)
 	if w.by != nil {
 		w.hit(n.record())
 	}
@@ -243,9 +242,9 @@ func valueOf[K comparable, V any](n *node[K, V]) (v V) {
 func (c *Cache[K, V]) GetIfPresent(key K) (v V, ok bool) {
 	f := c.now.Load()
 	w := f.p.watch()
-	n, _, gone := f.values.look(key, c.printOf(key), w)
+	n, _, gone := f.values.look(key, c.printOf(key), w, nil)
 	ok = n != nil && !n.isError()
-	c.looked(ok)
+	c.tally.looked(ok)
 	if ok {
 		w.hit(n.record())
 		return n.value, true
@@ -265,9 +264,9 @@ type ValueStamp struct{ of pointer }
 func (c *Cache[K, V]) GetStamped(ctx context.Context, key K) (v V, stamp ValueStamp, err error) {
 	f, print := c.now.Load(), c.printOf(key)
 	w := f.p.watch()
-	n, isDue, gone := f.values.look(key, print, w)
-	c.looked(n != nil)
+	n, isDue, gone := f.values.look(key, print, w, &c.tally)
 	if n == nil {
+		c.tally.missed()
 		n, err = c.miss(ctx, f, key, print, c.load, gone, w.from)
 		return valueOf(n), ValueStamp{pointer(n)}, err
 	}

@@ -93,9 +93,9 @@ func (b *batch[K, V]) looks(ctx context.Context, keys []K, got []Got[V]) map[K]i
 // look gives a key what is there, or has it be asked for.
 func (b *batch[K, V]) look(ctx context.Context, key K, to *Got[V]) {
 	c, print := b.c, b.c.printOf(key)
-	n, isDue, gone := b.f.values.look(key, print, b.watch)
-	c.looked(n != nil)
+	n, isDue, gone := b.f.values.look(key, print, b.watch, &c.tally)
 	if n == nil {
+		c.tally.missed()
 		if gone != nil {
 			b.gone = append(b.gone, gone)
 		}

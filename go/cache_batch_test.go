@@ -5,6 +5,7 @@ import (
 	"fmt"
 	"runtime"
 	"strings"
+	"sync"
 	"sync/atomic"
 	"testing"
 	"time"
@@ -70,6 +71,39 @@ func TestCacheCountsMeanTheSame(t *testing.T) {
 		timed += count
 	}
 	if st.Loads != 4 || st.Errors != 1 || st.Stale != 1 || st.Forgets != 5 || timed != 3 {
+		t.Errorf("its numbers: %+v", st)
+	}
+}
+
+// Each Get is counted once, as a hit or as a miss: also where many goroutines hit at one time, where the value that is there was
+// forgotten, and where it has expired and could stand in for an error.
+func TestCacheCountsEachHit(t *testing.T) {
+	const goroutines, gets = 8, 20000
+	var clock testClock
+	c := newCache(t, 10, func(context.Context, string) (int, error) { return 1, nil },
+		WithTTL(10*time.Second), WithStaleIfError(20*time.Second), WithClock(clock.time))
+	mustGet(t, c, "key", 1)
+	var done sync.WaitGroup
+	for i := 0; i < goroutines; i++ {
+		done.Add(1)
+		go func() {
+			defer done.Done()
+			for n := 0; n < gets; n++ {
+				if v, err := c.Get(always, "key"); v != 1 || err != nil {
+					t.Error("another value", v, err)
+				}
+			}
+		}()
+	}
+	done.Wait()
+	mustGet(t, c, "key", 1)
+	mustGet(t, c, "key", 1)
+	c.now.Load().p.forgets("key")
+	mustGet(t, c, "key", 1)
+	mustGet(t, c, "key", 1)
+	clock.pass(10 * time.Second)
+	mustGet(t, c, "key", 1)
+	if st := c.Stats(); st.Hits != goroutines*gets+3 || st.Misses != 3 {
 		t.Errorf("its numbers: %+v", st)
 	}
 }

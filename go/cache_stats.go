@@ -6,10 +6,21 @@ import (
 	"time"
 )
 
-// How many looks found a value, and how many did not, of some goroutines.
+// How many looks of a cache found a value, and how many did not.
+type tally struct {
+	some []looks   // of some goroutines
+	own  []pointer // of *hits, by processor: see isHit
+}
+
 type looks struct {
 	hits, misses atomic.Uint64
 	_            [cacheLine - 16]byte
+}
+
+// The hits of a processor, which it counts with increment.
+type hits struct {
+	n uint64
+	_ [cacheLine - 8]byte
 }
 
 const (
@@ -40,13 +51,34 @@ func (r *room) countsOf(print uint32) *counts {
 
 func (t *values[K, V]) countsOf(print uint32) *counts { return t.room.countsOf(print) }
 
-func (c *Cache[K, V]) looked(found bool) {
-	l := &c.looks[here()&uint(len(c.looks)-1)]
+func (t *tally) open(looksOf int) {
+	t.some = make([]looks, looksOf)
+	t.own = make([]pointer, processors())
+}
+
+func (t *tally) looked(found bool) {
+	l := &t.some[here()&uint(len(t.some)-1)]
 	if found {
 		l.hits.Add(1)
 	} else {
 		l.misses.Add(1)
 	}
+}
+
+func (t *tally) missed() { t.looked(false) }
+
+// count returns how many looks found a value, and how many did not.
+func (t *tally) count() (found, missed uint64) {
+	for i := range t.some {
+		found += t.some[i].hits.Load()
+		missed += t.some[i].misses.Load()
+	}
+	for i := range t.own {
+		if own := (*hits)(atomic.LoadPointer(&t.own[i])); own != nil {
+			found += atomic.LoadUint64(&own.n)
+		}
+	}
+	return found, missed
 }
 
 // LoadTimeBuckets is how many buckets CacheStats has of load times.
@@ -142,10 +174,7 @@ func (c *Cache[K, V]) Stats() CacheStats {
 	st.Evictions, st.Expirations = st.LeftFor[ReasonRoom], st.LeftFor[ReasonExpired]
 	st.Values = st.Kept - st.Left
 	st.Weight = c.Weight()
-	for i := range c.looks {
-		st.Hits += c.looks[i].hits.Load()
-		st.Misses += c.looks[i].misses.Load()
-	}
+	st.Hits, st.Misses = c.tally.count()
 	if found <= st.Misses {
 		st.Hits, st.Misses = st.Hits+found, st.Misses-found
 	}

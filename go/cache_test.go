@@ -763,7 +763,7 @@ func TestTableHash(t *testing.T) {
 	const same = 0x12345678
 	table, keep := tableWith(t, 100)
 	a, _ := keep("a", same)
-	if n, _, _ := table.look("b", same, watch{}); n != nil {
+	if n, _, _ := table.look("b", same, watch{}, nil); n != nil {
 		t.Error("b has a's value")
 	}
 	b, out := keep("b", same)
@@ -774,11 +774,11 @@ func TestTableHash(t *testing.T) {
 	c, _ := keep("c", same^1<<20)
 	for i := 0; i < 3; i++ {
 		for key, want := range map[string]*node[string, int]{"a": a, "b": b, "d": nil} {
-			if n, _, _ := table.look(key, same, watch{}); n != want {
+			if n, _, _ := table.look(key, same, watch{}, nil); n != want {
 				t.Error("a look", key, n)
 			}
 		}
-		if n, _, _ := table.look("c", same^1<<20, watch{}); n != c {
+		if n, _, _ := table.look("c", same^1<<20, watch{}, nil); n != c {
 			t.Error("a look at c", n)
 		}
 		// The shard grows.
@@ -787,7 +787,7 @@ func TestTableHash(t *testing.T) {
 		}
 	}
 	table.drop(a, ReasonForgotten)
-	if n, _, _ := table.look("b", same, watch{}); n != b {
+	if n, _, _ := table.look("b", same, watch{}, nil); n != b {
 		t.Error("b left with a")
 	}
 	if out := table.close(ReasonClosed); len(out) != 62 {

@@ -323,10 +323,11 @@ func (t *values[K, V]) find(key K, print uint32) *node[K, V] {
 }
 
 // isCurrent tells whether the node's value may be used: no Forget of its key, and none of its tags,
-// has returned since its load began. Of the key the library says so.
-func (t *values[K, V]) isCurrent(n *node[K, V]) bool {
+// has returned since its load began. Of the key the library says so. It counts that as a hit, unless
+// by is nil.
+func (t *values[K, V]) isCurrent(n *node[K, V], by *tally) bool {
 	point(beforeLook)
-	return t.p.table.isStill(n.stamp()) && t.room.tags.areCurrent(n.extras)
+	return t.room.tags.areCurrent(n.extras) && t.p.table.isHit(n.stamp(), by)
 }
 
 // A state is what a look finds of a node.
@@ -341,11 +342,8 @@ const (
 	isDue // fresh, and to be refreshed
 )
 
-// stateOf returns the node's state, and its age by the steady clock where it has a life.
-func (t *values[K, V]) stateOf(n *node[K, V], isCurrent bool) (is state, steady time.Duration) {
-	if !isCurrent {
-		return isForgotten, 0
-	}
+// stateOf returns the state of a node that is current, and its age by the steady clock where it has a life.
+func (t *values[K, V]) stateOf(n *node[K, V]) (is state, steady time.Duration) {
 	if !n.hasLife() {
 		return isFresh, 0
 	}
@@ -363,19 +361,27 @@ func (t *values[K, V]) stateOf(n *node[K, V], isCurrent bool) (is state, steady 
 }
 
 // look returns the key's node if it is fresh, and whether it is due. One that cannot be used any more
-// leaves, and is returned as gone.
+// leaves, and is returned as gone. It counts a node that it returns as a hit, unless by is nil.
 //
 // A look that is recorded holds the record of a node that it returns.
-func (t *values[K, V]) look(key K, print uint32, w watch) (n *node[K, V], isToRefresh bool, gone *node[K, V]) {
+func (t *values[K, V]) look(
+	key K, print uint32, w watch, by *tally,
+) (n *node[K, V], isToRefresh bool, gone *node[K, V]) {
 	n = t.find(key, print)
 	if n == nil {
 		return nil, false, nil
 	}
 	if w.by != nil && !w.holds(n.record()) {
 		// It has left since.
-		return t.look(key, print, w)
+		return t.look(key, print, w, by)
 	}
-	is, steady := t.stateOf(n, t.isCurrent(n))
+	is, steady := t.stateOf(n)
+	if is < isFresh {
+		by = nil
+	}
+	if !t.isCurrent(n, by) {
+		is = isForgotten
+	}
 	if w.by != nil && is < isFresh {
 		w.drops(n.record())
 	}
@@ -403,8 +409,8 @@ func (t *values[K, V]) current(key K, print uint32) *node[K, V] {
 }
 
 func (t *values[K, V]) isAtLeast(n *node[K, V], least state) bool {
-	is, _ := t.stateOf(n, t.isCurrent(n))
-	return is >= least
+	is, _ := t.stateOf(n)
+	return is >= least && t.isCurrent(n, nil)
 }
 
 // standIn returns the key's value that is to be returned in place of a load's error, if there is one.

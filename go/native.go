@@ -148,13 +148,7 @@ func (t *nativeTable) open(size *sizes) {
 		cOpen(t.root, size.cells(), random(), random()) != codeDone:
 		t.why = ErrMemory
 	default:
-		if !isRaceDetected {
-			n := runtime.GOMAXPROCS(0)
-			if n > mostProcessors {
-				n = mostProcessors
-			}
-			t.hot = make([]pointer, n)
-		}
+		t.hot = make([]pointer, processors())
 		t.measure(t.root)
 		return
 	}
@@ -173,6 +167,18 @@ func (all *handles) close() {
 	}
 }
 
+// processors returns how many processors have something of their own. The race detector sees locks alone.
+func processors() int {
+	n := runtime.GOMAXPROCS(0)
+	switch {
+	case isRaceDetected:
+		return 0
+	case n > mostProcessors:
+		return mostProcessors
+	}
+	return n
+}
+
 // procPin returns the number of the processor, on which the goroutine stays until procUnpin, and is not stopped. It may not wait
 // for a lock meanwhile.
 //
@@ -182,7 +188,7 @@ func procPin() int
 //go:linkname procUnpin runtime.procUnpin
 func procUnpin()
 
-// take takes a handle, until put. The race detector sees locks alone.
+// take takes a handle, until put.
 func (t *nativeTable) take() *handle {
 	if p := procPin(); p < len(t.hot) {
 		if h := (*handle)(atomic.LoadPointer(&t.hot[p])); h != nil {
@@ -520,6 +526,48 @@ func (t *nativeTable) isStill(stamp Stamp) (is bool) {
 	is = cIsStill(h, &words)
 	t.put(h)
 	return is
+}
+
+// isHit is isStill, and counts that it is, unless by is nil: as a handle is taken, without a locked instruction.
+func (t *nativeTable) isHit(stamp Stamp, by *tally) (is bool) {
+	if t.plain != nil {
+		return t.plain.isHit(stamp, by)
+	}
+	if by == nil {
+		return t.isStill(stamp)
+	}
+	isFirst := false
+	if !t.isEnded.Load() && stamp.Place>>56 != 0 {
+		words := stamp.words()
+		if p := procPin(); p < len(t.hot) && p < len(by.own) {
+			h, own := (*handle)(atomic.LoadPointer(&t.hot[p])), (*hits)(atomic.LoadPointer(&by.own[p]))
+			if h != nil && own != nil {
+				if is = cIsStill(h, &words); is {
+					increment(&own.n)
+				}
+				procUnpin()
+				return is
+			}
+			isFirst = own == nil
+		}
+		procUnpin()
+	}
+	if is = t.isStill(stamp); is {
+		by.looked(true)
+	}
+	if isFirst {
+		by.begin()
+	}
+	return is
+}
+
+// begin has this processor count its hits, if it does not.
+func (t *tally) begin() {
+	own := pointer(new(hits))
+	if p := procPin(); p < len(t.own) && t.own[p] == nil {
+		atomic.StorePointer(&t.own[p], own)
+	}
+	procUnpin()
 }
 
 // count counts the calls. An end is counted after its beginning, so it is read before that.
