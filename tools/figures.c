@@ -10,8 +10,8 @@
 #include <sys/random.h>
 #include <time.h>
 
-#define GETS 300000
-#define ROUNDS 7
+#define GETS 50000
+#define ROUNDS 41
 
 static double now(void) {
     struct timespec at;

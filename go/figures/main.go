@@ -16,7 +16,11 @@ import (
 	ours "sf.example/singleflight"
 )
 
-const gets = 300000
+// Many short rounds: a machine that is slow for a while, as virtual ones are, then slows none of the groups alone.
+const (
+	rounds = 41
+	gets   = 50000
+)
 
 type group interface {
 	Do(key string, fn func() (any, error)) (v any, err error, shared bool)
@@ -60,17 +64,17 @@ func each(g group, goroutines int, hot bool) float64 {
 
 // Nanoseconds a Do of all of 4,000 goroutines together, each of which makes 100.
 func crowd(g group, keys int) float64 {
-	const goroutines, rounds = 4000, 100
+	const goroutines, each = 4000, 100
 	names := make([]string, keys)
 	for i := range names {
 		names[i] = fmt.Sprint("key-", i)
 	}
 	took := together(goroutines, func(i int) {
-		for n := 0; n < rounds; n++ {
+		for n := 0; n < each; n++ {
 			g.Do(names[i%keys], func() (any, error) { return nil, nil })
 		}
 	})
-	return float64(took.Nanoseconds()) / goroutines / rounds
+	return float64(took.Nanoseconds()) / goroutines / each
 }
 
 // Of 64 goroutines that want one key over and over, whose function takes so long: the half and 99 of 100 of the Dos take no longer.
@@ -164,9 +168,9 @@ func tenths(g group, keys int) (all [10][2]time.Duration) {
 	return all
 }
 
-// The least and the median of some rounds.
+// The least and the median of the rounds.
 func leastAndMedian(run func() float64) string {
-	all := make([]float64, 7)
+	all := make([]float64, rounds)
 	for i := range all {
 		all[i] = run()
 	}
@@ -176,14 +180,14 @@ func leastAndMedian(run func() float64) string {
 
 // both measures the two groups in rounds that alternate, and returns the least and the median of each.
 func both(run func(g group) float64) (own, other string) {
+	g, o := new(ours.Group), new(theirs.Group)
+	defer g.Close()
+	for _, it := range []group{g, o} {
+		// The group is made at its first call.
+		it.Do("", func() (any, error) { return nil, nil })
+	}
 	var others []float64
 	own = leastAndMedian(func() float64 {
-		g, o := new(ours.Group), new(theirs.Group)
-		defer g.Close()
-		for _, it := range []group{g, o} {
-			// The group is made at its first call.
-			it.Do("", func() (any, error) { return nil, nil })
-		}
 		took := run(g)
 		others = append(others, run(o))
 		return took
@@ -253,7 +257,7 @@ func recorded(goroutines int) (with, without string, lost float64) {
 }
 
 func main() {
-	fmt.Println("the least of 7 rounds (their median)")
+	fmt.Printf("the least of %d rounds (their median)\n", rounds)
 	for _, what := range []string{"own keys", "one hot key"} {
 		for _, goroutines := range []int{1, 2, 4, 8} {
 			own, other := both(func(g group) float64 { return each(g, goroutines, what != "own keys") })

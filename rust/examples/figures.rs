@@ -9,7 +9,10 @@ use std::sync::{Arc, Barrier, Condvar, Mutex};
 use std::task::{Context, Poll, Waker};
 use std::time::{Duration, Instant};
 
-const GETS: u64 = 300_000;
+// Many short rounds, by turns of what is compared: a machine that is slow for a while, as virtual ones
+// are, then slows none of them alone.
+const GETS: u64 = 50_000;
+const ROUNDS: usize = 41;
 
 // One who asks: of the group, or of the map.
 trait Asker {
@@ -169,9 +172,15 @@ fn in_turn(keys: &[[u8; 8]]) -> f64 {
     from.elapsed().as_nanos() as f64 / keys.len() as f64
 }
 
-// The best of some rounds.
-fn best(mut run: impl FnMut() -> f64) -> f64 {
-    (0..7).map(|_| run()).fold(f64::MAX, f64::min)
+// The least of the rounds of each.
+fn best<const N: usize>(mut runs: [&mut dyn FnMut() -> f64; N]) -> [f64; N] {
+    let mut least = [f64::MAX; N];
+    for _ in 0..ROUNDS {
+        for (least, run) in least.iter_mut().zip(&mut runs) {
+            *least = least.min(run());
+        }
+    }
+    least
 }
 
 fn spin(until: Instant) {
@@ -242,7 +251,7 @@ fn beside_waiters<A: Asker>(waiters: usize, asker: impl Fn() -> A + Sync) -> [u6
 // lost.
 fn recorded(threads: usize) -> ([f64; 2], [f64; 2], f64) {
     let (mut with, mut without, mut events, mut lost) = (Vec::new(), Vec::new(), 0, 0);
-    for _ in 0..7 {
+    for _ in 0..ROUNDS {
         let group = Group::<u64>::open(4).unwrap();
         without.push(gets(threads, false, || group.caller()));
         let recording = group.record(std::io::sink()).unwrap();
@@ -261,34 +270,37 @@ fn main() {
     let open = |callers| Group::<u64>::open(callers).unwrap();
     for len in [8, 32, 128, 250, 1000] {
         let group = open(1);
-        let ours = best(|| by_length(len, group.caller()));
-        let plains = best(|| by_length(len, &Plain::default()));
+        let [ours, plains] = best([&mut || by_length(len, group.caller()), &mut || {
+            by_length(len, &Plain::default())
+        }]);
         println!("a key of {len} bytes, 1 thread: {ours:.0} ns a get; mutex, map and condition variable {plains:.0} ns");
     }
     for threads in [1, 4] {
-        let (own, group) = (best(|| still(threads, false)), best(|| still(threads, true)));
+        let [own, group] = best([&mut || still(threads, false), &mut || still(threads, true)]);
         println!(
             "is_still, {threads} threads: {own:.0} ns by a caller; {group:.0} ns by the group"
         );
     }
     let (chosen, others) =
         (chosen(30_000), (0..30_000u64).map(u64::to_le_bytes).collect::<Vec<_>>());
-    let (chosen, others) = (best(|| in_turn(&chosen)), best(|| in_turn(&others)));
+    let [chosen, others] = best([&mut || in_turn(&chosen), &mut || in_turn(&others)]);
     println!(
         "30,000 keys chosen for a directory's hash: {chosen:.0} ns a get; others {others:.0} ns"
     );
     for (what, hot) in [("own keys", false), ("one hot key", true)] {
         for threads in [1, 4] {
             let (group, plain) = (open(4), Plain::default());
-            let ours = best(|| gets(threads, hot, || group.caller()));
-            let groups = best(|| gets(threads, hot, || &group));
-            let plains = best(|| gets(threads, hot, || &plain));
+            let [ours, groups, plains] = best([
+                &mut || gets(threads, hot, || group.caller()),
+                &mut || gets(threads, hot, || &group),
+                &mut || gets(threads, hot, || &plain),
+            ]);
             println!("{what}, {threads} threads: {ours:.0} ns a get, {groups:.0} by the group; mutex, map and condition variable {plains:.0} ns");
         }
     }
     for threads in [1, 4] {
         let group = open(4);
-        let futures = best(|| gets(threads, false, || Futures(&group)));
+        let [futures] = best([&mut || gets(threads, false, || Futures(&group))]);
         println!("own keys, {threads} threads, by futures of the group: {futures:.0} ns a get");
     }
     for threads in [1, 4] {

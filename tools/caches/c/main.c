@@ -8,9 +8,12 @@
 #include <string.h>
 #include <time.h>
 
-enum { ROUNDS = 9, GETS = 200000, DRAWN = 1 << 16, KEYS = 1000, TRACE = 1000000, TRACE_KEYS = 100000, VALUES = 4000, MOST = 4 };
+enum { ROUNDS = 45, GETS = 40000, DRAWN = 1 << 16, KEYS = 1000, TRACE = 1000000, TRACE_KEYS = 100000, VALUES = 4000, MOST = 4 };
 
-typedef char key[24];
+typedef struct {
+    char text[24];
+    size_t len;
+} key;
 
 static char page[] = "<html></html>";
 
@@ -32,13 +35,13 @@ struct reader {
     pthread_t thread;
     pthread_barrier_t *begin;
     sflight_cache *cache;
-    const key *keys;
+    const key *const *keys;
     int count;
 };
 
-static void get(sflight_cache *cache, const key of) {
+static void get(sflight_cache *cache, const key *of) {
     sflight_value value;
-    if (sflight_cache_get(cache, (const uint8_t *)of, strlen(of), &value) > SFLIGHT_CACHE_JOINED || value.at != page) abort();
+    if (sflight_cache_get(cache, (const uint8_t *)of->text, of->len, &value) > SFLIGHT_CACHE_JOINED || value.at != page) abort();
     sflight_cache_release(cache, &value);
 }
 
@@ -64,7 +67,7 @@ static sflight_cache *cache_of(uint64_t values, void *loads) {
 }
 
 /* Each thread gets so many keys in turn; the next one's begin so much further. */
-static void measure(const char *what, int threads, const key *keys, int count, int further) {
+static void measure(const char *what, int threads, const key *const *keys, int count, int further) {
     sflight_cache *cache = cache_of(VALUES, NULL);
     double times[ROUNDS];
     for (int round = -1; round < ROUNDS; round++) {
@@ -87,12 +90,15 @@ static void measure(const char *what, int threads, const key *keys, int count, i
     printf("%-22s %-22s %d threads: least %4.0f median %4.0f\n", "sflight_cache.h", what, threads, times[0], times[ROUNDS / 2]);
 }
 
-static void name(key to, int number) {
-    snprintf(to, sizeof(key), "/page-%06d.html", number);
+/* The key of each number, which all who draw it share. */
+static key names[TRACE];
+
+static void name_all(void) {
+    for (int i = 0; i < TRACE; i++) names[i].len = (size_t)snprintf(names[i].text, sizeof names[i].text, "/page-%06d.html", i);
 }
 
 /* Keys by zipf with the exponent 1.01. */
-static void draw(key *drawn, int draws, int keys) {
+static void draw(const key **drawn, int draws, int keys) {
     static double upto[TRACE_KEYS];
     double sum = 0;
     uint64_t state = 1;
@@ -106,11 +112,11 @@ static void draw(key *drawn, int draws, int keys) {
             if (upto[middle] < at) low = middle + 1;
             else high = middle;
         }
-        name(drawn[i], low);
+        drawn[i] = &names[low];
     }
 }
 
-static void ratio(const key *trace, int gets, int values) {
+static void ratio(const key *const *trace, int gets, int values) {
     int loads = 0;
     sflight_cache *cache = cache_of((uint64_t)values, &loads);
     for (int i = 0; i < gets; i++) get(cache, trace[i]);
@@ -119,43 +125,50 @@ static void ratio(const key *trace, int gets, int values) {
 }
 
 /* How many gets hit in caches for 1, 5 and 20 % of so many keys. */
-static void ratios(const key *trace, int gets, int keys) {
+static void ratios(const key *const *trace, int gets, int keys) {
     ratio(trace, gets, keys / 100);
     ratio(trace, gets, keys / 20);
     ratio(trace, gets, keys / 5);
 }
 
-static int by_name(const void *a, const void *b) { return strcmp(a, b); }
+static int by_name(const void *a, const void *b) {
+    const key *const *x = a, *const *y = b;
+    return strcmp((*x)->text, (*y)->text);
+}
 
 /* It tells that of the trace in this file, which has a key a line. */
 static void ratios_of(const char *path) {
-    static key trace[TRACE], sorted[TRACE];
+    static key lines[TRACE];
+    static const key *trace[TRACE], *sorted[TRACE];
     int gets = 0, keys = 0;
     FILE *file = fopen(path, "r");
     if (!file) abort();
-    while (gets < TRACE && fscanf(file, "%23s", trace[gets]) == 1) gets++;
+    for (; gets < TRACE && fscanf(file, "%23s", lines[gets].text) == 1; gets++) {
+        lines[gets].len = strlen(lines[gets].text);
+        trace[gets] = sorted[gets] = &lines[gets];
+    }
     fclose(file);
-    memcpy(sorted, trace, sizeof trace);
-    qsort(sorted, (size_t)gets, sizeof(key), by_name);
-    for (int i = 0; i < gets; i++) keys += i == 0 || strcmp(sorted[i], sorted[i - 1]) != 0;
+    qsort(sorted, (size_t)gets, sizeof *sorted, by_name);
+    for (int i = 0; i < gets; i++) keys += i == 0 || by_name(&sorted[i], &sorted[i - 1]) != 0;
     const char *name = strrchr(path, '/');
     printf("Hit ratio of %d gets over %d keys, %s: %%\n", gets, keys, name ? name + 1 : path);
     ratios(trace, gets, keys);
 }
 
 int main(int count, char **words) {
-    static key keys[TRACE];
+    static const key *keys[TRACE];
     for (int i = 1; i < count; i++) ratios_of(words[i]);
     if (count > 1) return 0;
+    name_all();
     puts("A hit: ns, all threads together, divided by their gets");
     for (int threads = 1; threads <= MOST; threads += MOST - 1) {
-        name(keys[0], 1);
+        keys[0] = &names[1];
         measure("one key", threads, keys, 1, 0);
         draw(keys, MOST * DRAWN, KEYS);
         measure("1,000 keys by zipf", threads, keys, DRAWN, DRAWN);
     }
     printf("A miss with an empty load, in a full cache of %d values: ns\n", VALUES);
-    for (int i = 0; i < MOST * GETS; i++) name(keys[i], i);
+    for (int i = 0; i < MOST * GETS; i++) keys[i] = &names[i];
     for (int threads = 1; threads <= MOST; threads += MOST - 1) measure("a miss", threads, keys, GETS, GETS);
     puts("Hit ratio of 1,000,000 gets over 100,000 keys by zipf: %");
     draw(keys, TRACE, TRACE_KEYS);

@@ -22,8 +22,8 @@ import (
 )
 
 const (
-	rounds = 9
-	gets   = 200000
+	rounds = 45
+	gets   = 40000
 	drawn  = 1 << 16
 	page   = "<html></html>"
 )
@@ -145,9 +145,13 @@ func keyOf(n uint64) string { return fmt.Sprintf("/page-%06d.html", n) }
 
 func zipf(seed int64, keys, draws int) []string {
 	draw := rand.NewZipf(rand.New(rand.NewSource(seed)), 1.01, 1, uint64(keys-1))
+	names := make([]string, keys)
+	for i := range names {
+		names[i] = keyOf(uint64(i))
+	}
 	all := make([]string, draws)
 	for i := range all {
-		all[i] = keyOf(draw.Uint64())
+		all[i] = names[draw.Uint64()]
 	}
 	return all
 }

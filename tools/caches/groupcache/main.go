@@ -13,8 +13,8 @@ import (
 )
 
 const (
-	rounds = 9
-	gets   = 200000
+	rounds = 45
+	gets   = 40000
 	drawn  = 1 << 16
 )
 
@@ -24,21 +24,25 @@ func keys(thread int64, zipf bool) []string {
 		return []string{"/index.html"}
 	}
 	draw := rand.NewZipf(rand.New(rand.NewSource(thread)), 1.01, 1, 999)
+	var names [1000]string
+	for i := range names {
+		names[i] = fmt.Sprintf("/page-%03d.html", i)
+	}
 	all := make([]string, drawn)
 	for i := range all {
-		all[i] = fmt.Sprintf("/page-%03d.html", draw.Uint64())
+		all[i] = names[draw.Uint64()]
 	}
 	return all
 }
 
 func measure(g *groupcache.Group, threads int, zipf bool) {
 	var times [rounds]float64
+	lists := make([][]string, threads)
+	for i := range lists {
+		lists[i] = keys(int64(i), zipf)
+	}
 	for round := range times {
 		var done sync.WaitGroup
-		lists := make([][]string, threads)
-		for i := range lists {
-			lists[i] = keys(int64(i), zipf)
-		}
 		from := time.Now()
 		for i := 0; i < threads; i++ {
 			done.Add(1)

@@ -8,8 +8,8 @@ use std::sync::atomic::{AtomicU64, Ordering::Relaxed};
 use std::sync::{Arc, Barrier, Condvar, Mutex};
 use std::time::Instant;
 
-const ROUNDS: usize = 9;
-const GETS: usize = 200_000;
+const ROUNDS: usize = 45;
+const GETS: usize = 40_000;
 const DRAWN: usize = 1 << 16;
 const PAGE: &str = "<html></html>";
 
@@ -102,8 +102,9 @@ impl Random {
     }
 }
 
-/// Keys by zipf with the exponent 1.01.
-fn zipf(seed: u64, keys: usize, draws: usize) -> Vec<String> {
+/// Keys of these by zipf with the exponent 1.01.
+fn zipf(seed: u64, names: &[String], draws: usize) -> Vec<&str> {
+    let keys = names.len();
     let mut up_to = Vec::with_capacity(keys);
     let mut sum = 0.0;
     for key in 0..keys {
@@ -114,13 +115,13 @@ fn zipf(seed: u64, keys: usize, draws: usize) -> Vec<String> {
     (0..draws)
         .map(|_| {
             let drawn = random.next() * sum;
-            key_of(up_to.partition_point(|&top| top < drawn).min(keys - 1) as u64)
+            &*names[up_to.partition_point(|&top| top < drawn).min(keys - 1)]
         })
         .collect()
 }
 
 /// Nanoseconds that all threads together take, divided by all their gets.
-fn round(cache: &dyn Loads, lists: &[Vec<String>]) -> f64 {
+fn round(cache: &dyn Loads, lists: &[Vec<&str>]) -> f64 {
     let begin = Barrier::new(lists.len() + 1);
     let mut from = Instant::now();
     std::thread::scope(|scope| {
@@ -140,7 +141,7 @@ fn round(cache: &dyn Loads, lists: &[Vec<String>]) -> f64 {
 }
 
 /// The rounds of all caches alternate.
-fn compare(what: &str, values: usize, lists: &[Vec<String>], warm: &[String]) {
+fn compare(what: &str, values: usize, lists: &[Vec<&str>], warm: &[String]) {
     let caches = make(values);
     for (cache, key) in caches.iter().flat_map(|cache| warm.iter().map(move |key| (cache, key))) {
         cache.get(key, &|| PAGE.to_string());
@@ -172,25 +173,26 @@ fn main() {
         return;
     }
     println!("A hit: ns, all threads together, divided by their gets");
+    let all: Vec<_> = (0..1000).map(key_of).collect();
     for threads in [1, 4] {
-        let one = vec![vec![key_of(1)]; threads];
-        compare("one key", 4000, &one, &one[0]);
-        let all: Vec<_> = (0..1000).map(key_of).collect();
-        let many: Vec<_> = (0..threads).map(|seed| zipf(seed as u64, 1000, DRAWN)).collect();
+        compare("one key", 4000, &vec![vec![&*all[1]]; threads], &all[1..2]);
+        let many: Vec<_> = (0..threads).map(|seed| zipf(seed as u64, &all, DRAWN)).collect();
         compare("1,000 keys by zipf", 4000, &many, &all);
     }
     println!("A miss with an empty load, in a full cache of 4,000 values: ns");
     for threads in [1, 4] {
-        let each = |thread| (0..GETS).map(|n| key_of((thread * GETS + n) as u64)).collect();
-        let lists: Vec<Vec<String>> = (0..threads).map(each).collect();
+        let all: Vec<_> = (0..threads * GETS).map(|n| key_of(n as u64)).collect();
+        let lists: Vec<Vec<_>> =
+            all.chunks(GETS).map(|own| own.iter().map(|key| &**key).collect()).collect();
         compare("a miss", 4000, &lists, &[]);
     }
     println!("Hit ratio of 1,000,000 gets over 100,000 keys by zipf: %");
-    ratios(&zipf(1, 100_000, 1_000_000), 100_000);
+    let all: Vec<_> = (0..100_000).map(key_of).collect();
+    ratios(&zipf(1, &all, 1_000_000), all.len());
 }
 
 /// How many gets hit in caches for 1, 5 and 20 % of so many keys.
-fn ratios(trace: &[String], keys: usize) {
+fn ratios(trace: &[&str], keys: usize) {
     for percent in [1, 5, 20] {
         let values = keys * percent / 100;
         for cache in make(values) {
@@ -210,7 +212,7 @@ fn ratios(trace: &[String], keys: usize) {
 /// It tells that of the trace in this file, which has a key a line.
 fn ratios_of(path: &str) {
     let text = std::fs::read_to_string(path).expect("a trace");
-    let trace: Vec<String> = text.lines().map(String::from).collect();
+    let trace: Vec<_> = text.lines().collect();
     let keys = trace.iter().collect::<std::collections::HashSet<_>>().len();
     let name = path.rsplit('/').next().unwrap();
     println!("Hit ratio of {} gets over {keys} keys, {name}: %", trace.len());
