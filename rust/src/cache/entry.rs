@@ -244,6 +244,12 @@ impl<K, V, E> Entry<K, V, E> {
         now.wrapping_add_signed(self.eras_after(now).into())
     }
 
+    /// Whether it is fresh for as long as the cache's values are.
+    #[inline]
+    pub(super) fn has_usual_ttl(&self) -> bool {
+        self.ttl == Ttl::CACHES
+    }
+
     /// For how many nanoseconds it is fresh, or `u64::MAX`, in a cache whose values have this time.
     #[inline]
     pub(super) fn ttl(&self, caches: u64) -> u64 {

@@ -75,27 +75,29 @@ pub(super) enum Verdict {
     Newer,
 }
 
-/// A value that a call of [`crate::Cache::read`] reads.
-pub(super) enum Held<'a, V> {
-    Near(#[allow(dead_code)] Hold<'a>, NonNull<V>),
-    Far(Arc<V>),
+/// A value that a call of [`crate::Cache::read`] reads, if there is one. It stays where it is made: a
+/// processor waits for what it copies right after it was written in parts.
+pub(super) struct Held<'a, V> {
+    near: Option<(Hold<'a>, NonNull<V>)>,
+    far: Option<Arc<V>>,
 }
 
-impl<V> std::ops::Deref for Held<'_, V> {
-    type Target = V;
+impl<V> Held<'_, V> {
+    pub(super) const NOTHING: Self = Held { near: None, far: None };
 
-    fn deref(&self) -> &V {
-        match self {
+    #[inline]
+    pub(super) fn value(&self) -> Option<&V> {
+        match &self.near {
             // SAFETY: the entry is held, and so is the value that it has.
-            Held::Near(_, value) => unsafe { value.as_ref() },
-            Held::Far(value) => value,
+            Some((_, value)) => Some(unsafe { value.as_ref() }),
+            None => self.far.as_deref(),
         }
     }
 }
 
-/// What was taken of an entry; its record; and its key, if it is due and this get is to begin its
-/// refresh.
-type Took<K, R> = (Option<R>, Option<Arc<ValueRecord>>, Option<K>);
+/// What few gets have of an entry that they find: its record; and its key, if it is due and this get
+/// is to begin its refresh.
+type Few<K> = (Option<Arc<ValueRecord>>, Option<K>);
 
 impl<K, V, E> Inner<K, V, E>
 where
@@ -104,7 +106,7 @@ where
     E: Send + Sync + 'static,
 {
     /// A get of the key begins.
-    #[inline]
+    #[inline(always)]
     pub(super) fn at<'a, Q: Hash + ?Sized>(&self, key: &'a Q) -> At<'a, Q> {
         let noted = self.recordings.noted();
         // Both before a value is looked for: one of an older era is no answer to a get that began
@@ -124,7 +126,7 @@ where
     }
 
     /// What an entry is worth to a get that began in the era.
-    #[inline]
+    #[inline(always)]
     pub(super) fn verdict(&self, entry: &Entry<K, V, E>, era: u64, handle: &mut Handle) -> Verdict {
         match entry.eras_after(era) {
             0 => {}
@@ -144,10 +146,12 @@ where
                 return Verdict::Forgotten;
             }
         }
+        if !self.has_times && entry.has_usual_ttl() {
+            return Verdict::Fresh { is_due: false, now: None };
+        }
         self.verdict_by_time(entry)
     }
 
-    #[inline]
     fn verdict_by_time(&self, entry: &Entry<K, V, E>) -> Verdict {
         let (ttl, options) = (entry.ttl(self.options.ttl), &self.options);
         let (idle, refresh) = match entry.error() {
@@ -177,7 +181,12 @@ where
         K: Borrow<Q>,
         Q: Hash + Eq + ?Sized,
     {
-        self.find_by(key, |entry, _| Some(Got::of(entry)))
+        let mut got = None;
+        self.find_by(key, |entry, _| {
+            got = Some(Got::of(entry));
+            true
+        });
+        got
     }
 
     /// The value of the key. One that finds an error returns nothing.
@@ -187,65 +196,88 @@ where
         K: Borrow<Q>,
         Q: Hash + Eq + ?Sized,
     {
-        self.find_by(key, |entry, _| entry.value().cloned())
+        let mut value = None;
+        self.find_by(key, |entry, _| {
+            value = entry.value().cloned();
+            value.is_some()
+        });
+        value
     }
 
     /// The value of the key for a read, for which no count is written that others write.
-    pub(super) fn hold<'a, Q>(self: &'a Arc<Self>, key: &At<'_, Q>) -> Option<Held<'a, V>>
+    #[inline]
+    pub(super) fn hold<'a, Q>(self: &'a Arc<Self>, key: &At<'_, Q>, held: &mut Held<'a, V>)
     where
         K: Borrow<Q>,
         Q: Hash + Eq + ?Sized,
     {
         self.find_by(key, |entry, place| {
-            let value = entry.value()?;
-            let far = || Held::Far(value.clone());
-            let hold = place.and_then(Taken::hold);
-            Some(hold.map_or_else(far, |hold| Held::Near(hold, NonNull::from(&**value))))
-        })
+            let Some(value) = entry.value() else { return false };
+            match place.and_then(Taken::hold) {
+                Some(hold) => held.near = Some((hold, NonNull::from(&**value))),
+                None => held.far = Some(value.clone()),
+            }
+            true
+        });
     }
 
-    /// What is taken of the key's entry, if it is fresh. It takes no lock for that. A get that takes
-    /// nothing of an entry has found it all the same.
+    /// Calls `take` with the key's entry, if it is fresh; it returns whether it has taken something. It
+    /// takes no lock for that. A get that takes nothing of an entry has found it all the same.
     #[inline]
-    fn find_by<'a, Q, R>(
+    fn find_by<'a, Q>(
         self: &'a Arc<Self>,
         key: &At<'_, Q>,
-        take: impl Fn(&Entry<K, V, E>, Option<&Taken<'a>>) -> Option<R>,
-    ) -> Option<R>
-    where
+        mut take: impl FnMut(&Entry<K, V, E>, Option<&Taken<'a>>) -> bool,
+    ) where
         K: Borrow<Q>,
         Q: Hash + Eq + ?Sized,
     {
         let places = &self.group.shared.places;
         let shard = self.shard(key.fingerprint);
+        let mut few = None;
         let near = shard.look(places, key.print(), key.key, |place, entry| {
             let verdict = self.verdict(entry, key.era, &mut place.handle);
-            let Verdict::Fresh { is_due, now } = verdict else { return None };
+            let Verdict::Fresh { is_due, now } = verdict else { return false };
             place.hits += 1;
-            let taken = take(entry, Some(place));
-            Some((taken, key.record(entry), self.found(entry, is_due, now)))
+            let is_taken = take(entry, Some(place));
+            entry.mark();
+            if now.is_some() || key.noted.is_some() {
+                few = Some(self.few(key, entry, is_taken, is_due, now));
+            }
+            true
         });
-        let (taken, record, due) = match near.flatten() {
-            Some(took) => took,
-            None => self.find_far(key, |entry| take(entry, None))?,
-        };
-        if taken.is_some() {
-            key.enters(record.as_ref());
+        if near != Some(true) {
+            few = self.find_far(key, |entry| take(entry, None));
+            if few.is_none() {
+                return;
+            }
         }
-        // First: if the recorder panics, nobody else would begin it.
-        if let Some(due) = due {
-            self.refresh(due, key.fingerprint);
+        if let Some((record, due)) = few {
+            key.enters(record.as_ref());
+            // First: if the recorder panics, nobody else would begin it.
+            if let Some(due) = due {
+                self.refresh(due, key.fingerprint);
+            }
         }
         if let Some(recorder) = &self.options.recorder {
             recorder.hit();
         }
-        taken
     }
 
-    /// Marks an entry that was found. Its key, if this get is to begin its refresh.
-    #[inline]
+    /// What few gets have of an entry that was found, of which something was taken or not.
+    fn few<Q: ?Sized>(
+        &self,
+        key: &At<'_, Q>,
+        entry: &Entry<K, V, E>,
+        is_taken: bool,
+        is_due: bool,
+        now: Option<Moment>,
+    ) -> Few<K> {
+        (key.record(entry).filter(|_| is_taken), self.found(entry, is_due, now))
+    }
+
+    /// Notes when an entry was found, if it may be idle. Its key, if this get is to begin its refresh.
     fn found(&self, entry: &Entry<K, V, E>, is_due: bool, now: Option<Moment>) -> Option<K> {
-        entry.mark();
         if let Some(now) = now.filter(|_| self.options.idle < u64::MAX) {
             entry.touch(now, entry.born(&self.eras), self.options.idle / IDLE_STEPS);
         }
@@ -258,11 +290,11 @@ where
     /// Looks once more, with the shard's lock: an entry may have been moved, or come. One that is met
     /// and can never be returned again leaves.
     #[cold]
-    fn find_far<Q, R>(
+    fn find_far<Q>(
         &self,
         key: &At<'_, Q>,
-        take: impl FnOnce(&Entry<K, V, E>) -> Option<R>,
-    ) -> Option<Took<K, R>>
+        take: impl FnOnce(&Entry<K, V, E>) -> bool,
+    ) -> Option<Few<K>>
     where
         K: Borrow<Q>,
         Q: Hash + Eq + ?Sized,
@@ -277,8 +309,9 @@ where
                 return (verdict, None);
             };
             seat.hits += 1;
-            let due = self.found(entry, is_due, now);
-            (verdict, Some((take(entry), key.record(entry), due)))
+            let is_taken = take(entry);
+            entry.mark();
+            (verdict, Some(self.few(key, entry, is_taken, is_due, now)))
         });
         let reason = match verdict {
             Some(Verdict::Forgotten) => Some(Reason::Forgotten),

@@ -37,6 +37,7 @@ use builder::Options;
 use keep::{Begun, Kept, Left, Since};
 pub use loads::{Fetched, LoadError};
 use loads::{Got, Outcome};
+use look::Held;
 use shard::{Shard, Yard};
 use stats::{add, Counts};
 pub use stats::{CacheStats, Reason, Recorder};
@@ -549,8 +550,9 @@ where
         K: Borrow<Q>,
         Q: Hash + Eq + ?Sized,
     {
-        let held = self.0.hold(&self.0.at(key))?;
-        let made = read(&held);
+        let mut held = Held::NOTHING;
+        self.0.hold(&self.0.at(key), &mut held);
+        let made = read(held.value()?);
         drop(held);
         // It may have left meanwhile.
         self.0.yard.sweep();
