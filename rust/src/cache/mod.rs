@@ -550,10 +550,11 @@ where
         K: Borrow<Q>,
         Q: Hash + Eq + ?Sized,
     {
-        let mut held = Held::NOTHING;
-        self.0.hold(&self.0.at(key), &mut held);
-        let made = read(held.value()?);
-        drop(held);
+        let made = {
+            let mut held = Held::NOTHING;
+            self.0.hold(&self.0.at(key), &mut held);
+            read(held.value()?)
+        };
         // It may have left meanwhile.
         self.0.yard.sweep();
         Some(made)
