@@ -208,6 +208,15 @@ pub(super) struct Guard<'a, K, V, E> {
 }
 
 impl<'a, K, V, E> Guard<'a, K, V, E> {
+    /// How many tables are no longer in use, and how many entries a reader would find there.
+    #[cfg(test)]
+    pub(super) fn old_tables(&self) -> (usize, usize) {
+        let (_, old) = self.locked.tables.split_last().expect("a table");
+        // SAFETY: each table is there as long as the shard.
+        let slots = old.iter().flat_map(|table| unsafe { &table.as_ref().0 });
+        (old.len(), slots.filter(|slot| !slot.load(Relaxed).is_null()).count())
+    }
+
     pub(super) fn len(&self) -> usize {
         self.locked.len
     }

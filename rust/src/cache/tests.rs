@@ -556,6 +556,8 @@ fn entries_are_found_without_a_lock_and_freed_when_nobody_reads() {
     for key in (0..3_000).map(spread) {
         shard.put(key, key.into());
     }
+    let (tables, entries) = shard.shard.lock(&shard.yard).old_tables();
+    assert!(tables > 0 && entries == 0, "{entries} entries are in {tables} tables that were grown");
     for key in (0..3_000).step_by(3).map(spread) {
         assert_eq!(shard.remove(key), Some(key.into()));
     }
