@@ -11,6 +11,8 @@ mod calls;
 #[cfg(test)]
 mod failing;
 #[cfg(test)]
+mod getting;
+#[cfg(test)]
 mod keeps;
 #[cfg(test)]
 mod loaders;

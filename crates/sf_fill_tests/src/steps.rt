@@ -2,6 +2,7 @@
 
 ghost use Rattle.sf_fill_tests.specs.Origins.{IsOpenOrigin};
 
+use crate::getting;
 use crate::loaders::Flags;
 use bytes::Bytes;
 use sf_fill::{Fill, Forgot, Getter, LoadFault, Naming, Put, View, Which};
@@ -307,18 +308,8 @@ fn is_old(answer: &Result<Bytes, LoadFault>, version: u8) -> bool {
     }
 }
 
-// The bytes of an answer.
-fn bytes_of<'d, D: Naming, O: Origin>(
-    answer: Result<View<'d, D, O>, LoadFault>,
-) -> Result<Bytes, LoadFault> {
-    match answer {
-        Ok(view) => Ok(view.into_bytes()),
-        Err(fault) => Err(fault),
-    }
-}
-
 // Gets the key's bytes: for one of the keys those of a letter at hand first, and else by a get.
-fn get_bytes<'d, D: Naming, N: Naming, O: Origin, L: LoadPath<Origin = O>>(
+fn read_bytes<'d, D: Naming, N: Naming, O: Origin, L: LoadPath<Origin = O>>(
     rt: &impl Wait,
     fill: &Fill<'d, D, N, O>,
     getter: &mut Getter<'d, D, N, O, L>,
@@ -329,7 +320,7 @@ fn get_bytes<'d, D: Naming, N: Naming, O: Origin, L: LoadPath<Origin = O>>(
             return answer;
         }
     }
-    bytes_of(fill.get(rt, getter, key.as_bytes()))
+    getting::get_bytes(rt, fill, getter, key.as_bytes())
 }
 
 // Gets often, and says how many answers were old.
@@ -347,7 +338,7 @@ fn read<'d, D: Naming, N: Naming, O: Origin, L: LoadPath<Origin = O>>(
                 .versions(key.as_bytes())
                 .reloaded
                 .load(Ordering::SeqCst);
-            let answer = get_bytes(rt, fill, getter, key);
+            let answer = read_bytes(rt, fill, getter, key);
             if is_old(&answer, version) {
                 old = old.saturating_add(1);
             }
@@ -418,7 +409,7 @@ fn repeat<'d, D: Naming, N: Naming, O: Origin, L: LoadPath<Origin = O>>(
 ) {
     let (gets, key) = times(key);
     for _ in 0..gets {
-        let _answer = fill.get(rt, getter, key.as_bytes());
+        getting::get(rt, fill, getter, key.as_bytes());
     }
 }
 
@@ -442,7 +433,7 @@ fn behind<'d, D: Naming, N: Naming, O: Origin, L: LoadPath<Origin = O>>(
 ) {
     let mut most: u128 = 0;
     for turn in 0..400u32 {
-        let _answer = fill.get(rt, getter, key_of(turn, refused));
+        getting::get(rt, fill, getter, key_of(turn, refused));
         let behind = (turn as u128 + 1).saturating_sub(fill.book(rt).gets);
         most = most.max(behind);
     }

@@ -4,6 +4,7 @@ ghost use Rattle.std.specs.Prelude.{◌≡◌, All, vec_len};
 ghost use Rattle.sf_group_rows.specs.Same.{IsPlaceOf};
 ghost use Rattle.sf_fill_open.specs.Opened.{IsNewGetter};
 
+use crate::getting::get;
 use bytes::Bytes;
 use sf_fill::{Fill, FillValue, Getter, Naming};
 use sf_fill_open::{Body, FillSizes, Keys, Places, with_fill};
@@ -90,7 +91,7 @@ impl<'a, R: Wait> Body for SecondLook<'a, R> {
     {
         let SecondLook { rt, case } = self;
         let (mut one, two) = both(getters);
-        let _view = fill.get(rt, &mut one, b"a");
+        get(rt, fill, &mut one, b"a");
         one.end(rt, fill);
         found_after(rt, fill, two.into_caller(rt, fill)?, case)
     }

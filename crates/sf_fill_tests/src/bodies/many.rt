@@ -4,7 +4,9 @@ ghost use Rattle.sf_words.specs.declared.limits.TheConstants.{LARGEST_CALLER, LA
 ghost use Rattle.sf_fill_open.specs.Opened.{IsNewGetter, places_for};
 
 use crate::bodies::leaders::loaders;
-use sf_fill::{Fill, Getter, LoadFault, Naming, View};
+use crate::getting::get_bytes;
+use bytes::Bytes;
+use sf_fill::{Fill, Getter, LoadFault, Naming};
 use sf_fill_open::{Body, DirectoryKeys, FillSizes, Keys, Places, with_fill};
 use sf_group::Memory;
 use sf_loaders::scripted::{FixedPicker, RoundChance, Script};
@@ -67,7 +69,7 @@ fn get_each<'d, D: Naming, N: Naming, O: Origin, L: LoadPath<Origin = O> + Drop,
     let mut answers: u32 = 0;
     'each: while let Some(mut getter) = getters.pop() {
         count = count.saturating_add(1);
-        if is_v(fill.get(rt, &mut getter, key)) {
+        if is_v(get_bytes(rt, fill, &mut getter, key)) {
             answers = answers.saturating_add(1);
         }
         getter.end(rt, fill);
@@ -81,9 +83,9 @@ fn get_each<'d, D: Naming, N: Naming, O: Origin, L: LoadPath<Origin = O> + Drop,
 }
 
 // Whether the answer is the value `v`.
-fn is_v<'d, D: Naming, O: Origin>(answer: Result<View<'d, D, O>, LoadFault>) -> bool {
+fn is_v(answer: Result<Bytes, LoadFault>) -> bool {
     match answer {
-        Ok(view) => view.into_bytes().as_slice() == b"v".as_slice(),
+        Ok(bytes) => bytes.as_slice() == b"v".as_slice(),
         Err(_) => false,
     }
 }

@@ -6,6 +6,7 @@ ghost use Rattle.sf_fill_keys.specs.Spaces.{AreDesksOf, places_in, space_of};
 ghost use Rattle.sf_fill.specs.Made.{AreParts};
 
 use crate::bodies::leaders::{both, loaders};
+use crate::getting::get;
 use sf_fill::{Fill, FillParts, FillValue, Forgot, Getter, Keeps, Naming};
 use sf_fill_keys::{KeyDesk, KeySpace, open_directory};
 use sf_group::{Begun, Caller, Memory};
@@ -158,7 +159,7 @@ fn play<'d, D: Naming + Send + Sync, N: Naming + Send + Sync, R: Wait + Threads 
     requires { vec_len getters ≡ 2 }
 {
     let (mut one, two) = both(getters);
-    let _view = fill.get(rt, &mut one, b"a");
+    get(rt, fill, &mut one, b"a");
     match two.into_caller(rt, fill) {
         Some(caller) if fill.group().has(1) => Some(play_beside(rt, fill, one, caller, looks)),
         _ => {

@@ -3,6 +3,7 @@ ghost use Rattle.std.specs.Prelude.{◌≡◌, All, vec_len};
 ghost use Rattle.sf_fill_open.specs.Opened.{IsNewGetter};
 
 use crate::bodies::leaders::only;
+use crate::getting::get;
 use bytes::Bytes;
 use sf_fill::{Fill, Getter, Naming};
 use sf_fill_open::{Body, FillSizes, Keys, Places, with_fill};
@@ -44,8 +45,8 @@ impl<'a, R: Wait> Body for Own<'a, R> {
         let rt = self.rt;
         let mut getter = only(getters);
         // The first get loads, the second one is answered by main, and the third one near.
-        let _loaded = fill.get(rt, &mut getter, b"a");
-        let _kept = fill.get(rt, &mut getter, b"a");
+        get(rt, fill, &mut getter, b"a");
+        get(rt, fill, &mut getter, b"a");
         let near = fill.get_bytes_if_present(rt, &mut getter, b"a");
         getter.end(rt, fill);
         match near {

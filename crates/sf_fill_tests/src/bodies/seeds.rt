@@ -4,6 +4,7 @@ ghost use Rattle.sf_words.specs.declared.limits.TheConstants.{LARGEST_PLACE};
 ghost use Rattle.sf_fill_open.specs.Opened.{IsNewGetter, places_for};
 
 use crate::bodies::leaders::{loaders, only};
+use crate::getting::get;
 use sf_fill::{Fill, Getter, Naming};
 use sf_fill_open::{Body, DirectoryKeys, FillSizes, Keys, Places, with_fill};
 use sf_history::Event;
@@ -44,7 +45,7 @@ impl<'a, R: Wait> Body for FirstPlace<'a, R> {
     {
         let rt = self.rt;
         let mut getter = only(getters);
-        let _view = fill.get(rt, &mut getter, b"a");
+        get(rt, fill, &mut getter, b"a");
         let log = getter.take_log();
         getter.end(rt, fill);
         first_led(log)

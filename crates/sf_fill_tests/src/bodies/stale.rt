@@ -4,6 +4,7 @@ ghost use Rattle.std.specs.Prelude.{◌≡◌, All, vec_len};
 ghost use Rattle.sf_fill_open.specs.Opened.{IsNewGetter};
 
 use crate::bodies::leaders::both;
+use crate::getting::get;
 use bytes::{ByteStr, Bytes};
 use sf_fill::{Fill, FillValue, Getter, Naming, Which};
 use sf_fill_open::{Body, FillSizes, Keys, Places, with_fill};
@@ -59,7 +60,7 @@ fn kept_after_get<'d, D: Naming, N: Naming, O: Origin, L: LoadPath<Origin = O>>(
     fill: &Fill<'d, D, N, O>,
     getter: &mut Getter<'d, D, N, O, L>,
 ) -> usize {
-    let _answer = fill.get(rt, getter, b"a");
+    get(rt, fill, getter, b"a");
     fill.cache_stats(rt, Which::Main).items
 }
 
