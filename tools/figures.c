@@ -112,6 +112,8 @@ static double hits(void) {
 static void *get_all(void *at) {
     struct getter *getter = at;
     sflight_got got;
+    /* All are there before the clock runs. */
+    pthread_barrier_wait(getter->barrier);
     pthread_barrier_wait(getter->barrier);
     for (int n = 0; n < GETS; n++) {
         check(sflight_do(getter->pool, (const uint8_t *)getter->key, strlen(getter->key), nothing, NULL, SFLIGHT_DO_FOREVER, &got) == SFLIGHT_DO_DONE);
@@ -135,6 +137,7 @@ static double gets(sflight_pool *pool, int threads) {
     }
     pthread_barrier_wait(&barrier);
     double from = now();
+    pthread_barrier_wait(&barrier);
     pthread_barrier_wait(&barrier);
     double took = (now() - from) / GETS;
     for (int i = 0; i < threads; i++) pthread_join(ids[i], NULL);

@@ -47,6 +47,8 @@ static void get(sflight_cache *cache, const key *of) {
 
 static void *run(void *arg) {
     struct reader *r = arg;
+    /* All are there before the clock runs. */
+    pthread_barrier_wait(r->begin);
     pthread_barrier_wait(r->begin);
     for (int n = 0, at = 0; n < GETS; n++) {
         get(r->cache, r->keys[at]);
@@ -80,6 +82,7 @@ static void measure(const char *what, int threads, const key *const *keys, int c
         }
         pthread_barrier_wait(&begin);
         double from = now();
+        pthread_barrier_wait(&begin);
         for (int i = 0; i < threads; i++) pthread_join(readers[i].thread, NULL);
         /* The first round loads. */
         if (round >= 0) times[round] = (now() - from) / ((double)GETS * threads);

@@ -128,6 +128,8 @@ fn round(cache: &dyn Loads, lists: &[Vec<&str>]) -> f64 {
         for keys in lists {
             let begin = &begin;
             scope.spawn(move || {
+                // All are there before the clock runs.
+                begin.wait();
                 begin.wait();
                 for key in keys.iter().cycle().take(GETS) {
                     assert_eq!(cache.get(key, &|| PAGE.to_string()), PAGE.len());
@@ -136,6 +138,7 @@ fn round(cache: &dyn Loads, lists: &[Vec<&str>]) -> f64 {
         }
         begin.wait();
         from = Instant::now();
+        begin.wait();
     });
     from.elapsed().as_nanos() as f64 / (GETS * lists.len()) as f64
 }
