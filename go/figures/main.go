@@ -18,7 +18,7 @@ import (
 
 // Many short rounds: a machine that is slow for a while, as virtual ones are, then slows none of the groups alone.
 const (
-	rounds = 41
+	rounds = 101
 	gets   = 50000
 )
 
@@ -169,7 +169,9 @@ func tenths(g group, keys int) (all [10][2]time.Duration) {
 }
 
 // The least and the median of the rounds.
-func leastAndMedian(run func() float64) string {
+func leastAndMedian(run func() float64) string { return leastOf(rounds, run) }
+
+func leastOf(rounds int, run func() float64) string {
 	all := make([]float64, rounds)
 	for i := range all {
 		all[i] = run()
@@ -179,7 +181,7 @@ func leastAndMedian(run func() float64) string {
 }
 
 // both measures the two groups in rounds that alternate, and returns the least and the median of each.
-func both(run func(g group) float64) (own, other string) {
+func both(rounds int, run func(g group) float64) (own, other string) {
 	g, o := new(ours.Group), new(theirs.Group)
 	defer g.Close()
 	for _, it := range []group{g, o} {
@@ -187,12 +189,12 @@ func both(run func(g group) float64) (own, other string) {
 		it.Do("", func() (any, error) { return nil, nil })
 	}
 	var others []float64
-	own = leastAndMedian(func() float64 {
+	own = leastOf(rounds, func() float64 {
 		took := run(g)
 		others = append(others, run(o))
 		return took
 	})
-	other = leastAndMedian(func() float64 {
+	other = leastOf(rounds, func() float64 {
 		it := others[0]
 		others = others[1:]
 		return it
@@ -260,13 +262,13 @@ func main() {
 	fmt.Printf("the least of %d rounds (their median)\n", rounds)
 	for _, what := range []string{"own keys", "one hot key"} {
 		for _, goroutines := range []int{1, 2, 4, 8} {
-			own, other := both(func(g group) float64 { return each(g, goroutines, what != "own keys") })
+			own, other := both(rounds, func(g group) float64 { return each(g, goroutines, what != "own keys") })
 			fmt.Printf("%s, %d goroutines: %s ns a Do; x/sync %s ns\n", what, goroutines, own, other)
 		}
 	}
 	typed()
 	for _, goroutines := range []int{1, 4} {
-		own, other := both(func(g group) float64 {
+		own, other := both(rounds, func(g group) float64 {
 			return calls(goroutines, func() { g.Forget("key") })
 		})
 		fmt.Printf("Forget, %d goroutines: %s ns; x/sync %s ns\n", goroutines, own, other)
@@ -276,7 +278,7 @@ func main() {
 		fmt.Printf("recorded, %d goroutines: %s ns a Do; not recorded %s ns; %.1f %% lost\n", goroutines, with, without, lost)
 	}
 	for _, keys := range []int{1, 40, 4000} {
-		own, other := both(func(g group) float64 { return crowd(g, keys) })
+		own, other := both(rounds/4, func(g group) float64 { return crowd(g, keys) })
 		fmt.Printf("4,000 goroutines, %d keys: %s ns a Do of all; x/sync %s ns\n", keys, own, other)
 	}
 	for _, load := range []time.Duration{time.Microsecond, 10 * time.Microsecond, 100 * time.Microsecond} {

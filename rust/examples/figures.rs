@@ -12,7 +12,7 @@ use std::time::{Duration, Instant};
 // Many short rounds, by turns of what is compared: a machine that is slow for a while, as virtual ones
 // are, then slows none of them alone.
 const GETS: u64 = 50_000;
-const ROUNDS: usize = 41;
+const ROUNDS: usize = 101;
 
 // One who asks: of the group, or of the map.
 trait Asker {

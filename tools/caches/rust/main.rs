@@ -8,7 +8,7 @@ use std::sync::atomic::{AtomicU64, Ordering::Relaxed};
 use std::sync::{Arc, Barrier, Condvar, Mutex};
 use std::time::Instant;
 
-const ROUNDS: usize = 45;
+const ROUNDS: usize = 135;
 const GETS: usize = 40_000;
 const DRAWN: usize = 1 << 16;
 const PAGE: &str = "<html></html>";
