@@ -240,12 +240,24 @@ func increment(at *uint64) {
 
 // make makes a call, or none where there is no memory. It tells whether the group may have to grow. Looking takes the lock of all
 // handles, so one of newPerLook calls that are new to its handle looks: a group whose calls are used again never does.
+//
+// Calls lie one behind the other in memory, and each use writes to one. So of three the one in the middle is used first: else processors
+// would write to one line of memory, and wait for each other.
 func (h *handle) make(c *cCall) (isDue bool) {
-	if cMake(h, c) != codeDone {
-		return false
+	var beside [2]cCall
+	for _, c := range []*cCall{&beside[0], c, &beside[1]} {
+		if cMake(h, c) == codeDone {
+			h.made++
+			isDue = isDue || h.made%newPerLook == 0
+		}
 	}
-	h.made++
-	return h.made%newPerLook == 0
+	for i := range beside {
+		if !c.live {
+			*c, beside[i] = beside[i], cCall{}
+		}
+		h.idle(&beside[i])
+	}
+	return isDue
 }
 
 // idle gives a call back, if there is one.
