@@ -193,7 +193,7 @@ func (c *Cache[K, V]) begin(p *core) {
 	c.now.Store(f)
 }
 
-func (c *Cache[K, V]) printOf(key K) uint32 { return c.kind.print(key) }
+func (c *Cache[K, V]) printOf(key K) uint32 { return uint32(c.kind.hash(key)) }
 
 // Get returns the key's value: the one that is kept, or what the load returns. A load's error is
 // returned with its value, to all who share the load. Neither is kept, but see WithErrorTTL.

@@ -12,18 +12,8 @@ import (
 // A keyKind tells how the keys of a cache are hashed, and by which names its calls know them. Two
 // keys have one name only where the function of WithKey gives them the same bytes.
 type keyKind[K comparable] struct {
-	hash     func(K) uint64
-	name     func(K) string
-	isString bool // whether hash is that of the string itself
-	seed     maphash.Seed
-}
-
-// print returns the lower half of the key's hash.
-func (kind *keyKind[K]) print(key K) uint32 {
-	if kind.isString {
-		return uint32(hash(kind.seed, *(*string)(pointer(&key))))
-	}
-	return uint32(kind.hash(key))
+	hash func(K) uint64
+	name func(K) string
 }
 
 // isFindable tells whether a value that is kept under the key can be found again: not if the key does not equal itself, as NaN. Where
@@ -36,20 +26,20 @@ func keyKindOf[K comparable](toBytes func(K) []byte) (kind keyKind[K], err error
 	seed := maphash.MakeSeed()
 	if toBytes != nil {
 		return keyKind[K]{
-			hash: func(key K) uint64 { bytes := toBytes(key); return hash(seed, *(*string)(pointer(&bytes))) },
-			name: func(key K) string { return string(toBytes(key)) },
+			func(key K) uint64 { bytes := toBytes(key); return hash(seed, *(*string)(pointer(&bytes))) },
+			func(key K) string { return string(toBytes(key)) },
 		}, nil
 	}
 	of := reflect.TypeOf((*K)(nil)).Elem()
 	switch {
 	case of.Kind() == reflect.String:
 		name := func(key K) string { return *(*string)(pointer(&key)) }
-		return keyKind[K]{func(key K) uint64 { return hash(seed, name(key)) }, name, true, seed}, nil
+		return keyKind[K]{func(key K) uint64 { return hash(seed, name(key)) }, name}, nil
 	case of.Kind() == reflect.Array && widthOf(of.Elem().Kind()) > 0:
 		name := func(key K) string {
 			return string(unsafe.Slice((*byte)(pointer(&key)), unsafe.Sizeof(key)))
 		}
-		return keyKind[K]{hash: func(key K) uint64 { return hash(seed, name(key)) }, name: name}, nil
+		return keyKind[K]{func(key K) uint64 { return hash(seed, name(key)) }, name}, nil
 	}
 	width := widthOf(of.Kind())
 	if width == 0 {
@@ -58,8 +48,8 @@ func keyKindOf[K comparable](toBytes func(K) []byte) (kind keyKind[K], err error
 	first, second := hash(seed, "first"), hash(seed, "second")|1
 	number := readerOf[K](width)
 	return keyKind[K]{
-		hash: func(key K) uint64 { high, low := bits.Mul64(number(key)^first, second); return high ^ low },
-		name: func(key K) string { return strconv.FormatUint(number(key), 10) },
+		func(key K) uint64 { high, low := bits.Mul64(number(key)^first, second); return high ^ low },
+		func(key K) string { return strconv.FormatUint(number(key), 10) },
 	}, nil
 }
 

@@ -6,10 +6,10 @@ import (
 	"time"
 )
 
-// How many looks of a cache found a value, and how many did not.
+// A tally counts the looks of a cache that found a value, and those that did not.
 type tally struct {
-	some []looks   // of some goroutines
-	own  []pointer // of *hits, by processor: see isHit
+	byGoroutine []looks   // each for some of the goroutines
+	byProcessor []pointer // of *hits, each nil before the processor's first hit: see isHit
 }
 
 type looks struct {
@@ -17,7 +17,7 @@ type looks struct {
 	_            [cacheLine - 16]byte
 }
 
-// The hits of a processor, which it counts with increment.
+// The hits of one processor, which alone writes them, with increment.
 type hits struct {
 	n uint64
 	_ [cacheLine - 8]byte
@@ -52,12 +52,12 @@ func (r *room) countsOf(print uint32) *counts {
 func (t *values[K, V]) countsOf(print uint32) *counts { return t.room.countsOf(print) }
 
 func (t *tally) open(looksOf int) {
-	t.some = make([]looks, looksOf)
-	t.own = make([]pointer, processors())
+	t.byGoroutine = make([]looks, looksOf)
+	t.byProcessor = make([]pointer, processors())
 }
 
 func (t *tally) looked(found bool) {
-	l := &t.some[here()&uint(len(t.some)-1)]
+	l := &t.byGoroutine[here()&uint(len(t.byGoroutine)-1)]
 	if found {
 		l.hits.Add(1)
 	} else {
@@ -69,12 +69,12 @@ func (t *tally) missed() { t.looked(false) }
 
 // count returns how many looks found a value, and how many did not.
 func (t *tally) count() (found, missed uint64) {
-	for i := range t.some {
-		found += t.some[i].hits.Load()
-		missed += t.some[i].misses.Load()
+	for i := range t.byGoroutine {
+		found += t.byGoroutine[i].hits.Load()
+		missed += t.byGoroutine[i].misses.Load()
 	}
-	for i := range t.own {
-		if own := (*hits)(atomic.LoadPointer(&t.own[i])); own != nil {
+	for i := range t.byProcessor {
+		if own := (*hits)(atomic.LoadPointer(&t.byProcessor[i])); own != nil {
 			found += atomic.LoadUint64(&own.n)
 		}
 	}

@@ -323,8 +323,8 @@ func (t *values[K, V]) find(key K, print uint32) *node[K, V] {
 }
 
 // isCurrent tells whether the node's value may be used: no Forget of its key, and none of its tags,
-// has returned since its load began. Of the key the library says so. It counts that as a hit, unless
-// by is nil.
+// has returned since its load began. Of the key the library says so. A true
+// answer is counted as a hit in by, unless that is nil.
 func (t *values[K, V]) isCurrent(n *node[K, V], by *tally) bool {
 	point(beforeLook)
 	return t.room.tags.areCurrent(n.extras) && t.p.table.isHit(n.stamp(), by)
@@ -361,7 +361,7 @@ func (t *values[K, V]) stateOf(n *node[K, V]) (is state, steady time.Duration) {
 }
 
 // look returns the key's node if it is fresh, and whether it is due. One that cannot be used any more
-// leaves, and is returned as gone. It counts a node that it returns as a hit, unless by is nil.
+// leaves, and is returned as gone. A node that it returns is counted as a hit in by, unless that is nil.
 //
 // A look that is recorded holds the record of a node that it returns.
 func (t *values[K, V]) look(

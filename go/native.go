@@ -241,12 +241,12 @@ func increment(at *uint64) {
 // make makes a call, or none where there is no memory. It tells whether the group may have to grow. Looking takes the lock of all
 // handles, so one of newPerLook calls that are new to its handle looks: a group whose calls are used again never does.
 //
-// Calls lie one behind the other in memory, and each use writes to one. So of three the one in the middle is used first: else processors
-// would write to one line of memory, and wait for each other.
+// The library's calls lie next to each other in memory, and each use of a call writes to it. Two processors that write to one cache line
+// slow each other down. So this makes three calls, returns the one in the middle, and keeps its neighbours idle.
 func (h *handle) make(c *cCall) (isDue bool) {
 	var beside [2]cCall
-	for _, c := range []*cCall{&beside[0], c, &beside[1]} {
-		if cMake(h, c) == codeDone {
+	for _, to := range []*cCall{&beside[0], c, &beside[1]} {
+		if cMake(h, to) == codeDone {
 			h.made++
 			isDue = isDue || h.made%newPerLook == 0
 		}
@@ -540,7 +540,8 @@ func (t *nativeTable) isStill(stamp Stamp) (is bool) {
 	return is
 }
 
-// isHit is isStill, and counts that it is, unless by is nil: as a handle is taken, without a locked instruction.
+// isHit returns what isStill does, and counts a true answer in by, unless that is nil. It counts while it has the processor's handle, so
+// it needs no locked instruction for that.
 func (t *nativeTable) isHit(stamp Stamp, by *tally) (is bool) {
 	if t.plain != nil {
 		return t.plain.isHit(stamp, by)
@@ -551,8 +552,8 @@ func (t *nativeTable) isHit(stamp Stamp, by *tally) (is bool) {
 	isFirst := false
 	if !t.isEnded.Load() && stamp.Place>>56 != 0 {
 		words := stamp.words()
-		if p := procPin(); p < len(t.hot) && p < len(by.own) {
-			h, own := (*handle)(atomic.LoadPointer(&t.hot[p])), (*hits)(atomic.LoadPointer(&by.own[p]))
+		if p := procPin(); p < len(t.hot) && p < len(by.byProcessor) {
+			h, own := (*handle)(atomic.LoadPointer(&t.hot[p])), (*hits)(atomic.LoadPointer(&by.byProcessor[p]))
 			if h != nil && own != nil {
 				if is = cIsStill(h, &words); is {
 					increment(&own.n)
@@ -568,16 +569,16 @@ func (t *nativeTable) isHit(stamp Stamp, by *tally) (is bool) {
 		by.looked(true)
 	}
 	if isFirst {
-		by.begin()
+		by.addProcessor()
 	}
 	return is
 }
 
-// begin has this processor count its hits, if it does not.
-func (t *tally) begin() {
+// addProcessor gives this processor a count of its own, if it has none.
+func (t *tally) addProcessor() {
 	own := pointer(new(hits))
-	if p := procPin(); p < len(t.own) && t.own[p] == nil {
-		atomic.StorePointer(&t.own[p], own)
+	if p := procPin(); p < len(t.byProcessor) && t.byProcessor[p] == nil {
+		atomic.StorePointer(&t.byProcessor[p], own)
 	}
 	procUnpin()
 }

@@ -761,7 +761,8 @@ func (w *orderWorld) open() (err error) {
 	schedulesHash = 1
 	if w.kind == "cache" {
 		w.clock = time.Unix(1700000000, 0)
-		w.cache, err = NewCacheOf(100, w.loadTagged, append(w.options, WithBatchLoader(w.loadMany),
+		// So many hash slots that no two keys of an order share one: a Forget of one key would end the other's value.
+		w.cache, err = NewCacheOf(100, w.loadTagged, append(w.options, wide, WithBatchLoader(w.loadMany),
 			WithClock(func() time.Time { return w.clock }))...)
 	} else {
 		w.group = &Group{}

@@ -186,7 +186,7 @@ func (t *plainTable) isStill(stamp Stamp) bool {
 	return w.slot < uint64(len(t.ages)) && w == t.stampOf(w.slot) && !t.isEnded.Load()
 }
 
-// isHit is isStill, and counts that it is, unless by is nil.
+// isHit returns what isStill does, and counts a true answer in by, unless that is nil.
 func (t *plainTable) isHit(stamp Stamp, by *tally) (is bool) {
 	if is = t.isStill(stamp); is && by != nil {
 		by.looked(true)

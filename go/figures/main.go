@@ -16,7 +16,7 @@ import (
 	ours "sf.example/singleflight"
 )
 
-// Many short rounds: a machine that is slow for a while, as virtual ones are, then slows none of the groups alone.
+// A virtual machine slows down for seconds at a time. With many short rounds by turns that slows all groups alike.
 const (
 	rounds = 101
 	gets   = 50000

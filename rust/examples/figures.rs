@@ -9,8 +9,8 @@ use std::sync::{Arc, Barrier, Condvar, Mutex};
 use std::task::{Context, Poll, Waker};
 use std::time::{Duration, Instant};
 
-// Many short rounds, by turns of what is compared: a machine that is slow for a while, as virtual ones
-// are, then slows none of them alone.
+// A virtual machine slows down for seconds at a time. With many short rounds by turns that slows all
+// that is compared alike.
 const GETS: u64 = 50_000;
 const ROUNDS: usize = 101;
 

@@ -1,5 +1,5 @@
-//! Gets of whose promises no test makes use. Who calls `Fill::get` is proved beside all that it promises, which takes a minute or more:
-//! so these two are, and those who call them are not.
+//! Gets for tests that use no promise of `Fill::get`. The prover checks each caller of that beside all its clauses, which takes a minute
+//! or more. These two functions have no clauses, so their callers are checked in seconds.
 
 use bytes::Bytes;
 use sf_fill::{Fill, Getter, LoadFault, Naming};

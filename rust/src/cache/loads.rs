@@ -429,34 +429,19 @@ where
         Q: Hash + Eq + ToOwned<Owned = K> + ?Sized,
     {
         let key = self.at(key);
-        match self.find(&key) {
-            Some(got) => got,
-            None => self.get_missing(&key, wants_missing, load),
+        if let Some(got) = self.find(&key) {
+            return got;
         }
-    }
-
-    /// Gets the key from the load of another, or by `load`. Apart from the hit, which needs less room.
-    #[inline(never)]
-    fn get_missing<Q>(
-        self: &Arc<Self>,
-        key: &At<'_, Q>,
-        wants_missing: bool,
-        load: impl FnOnce() -> Result<Fetched<V>, E>,
-    ) -> Got<V, E>
-    where
-        K: Borrow<Q>,
-        Q: Hash + Eq + ToOwned<Owned = K> + ?Sized,
-    {
         at("looked");
         let mut load = Some(load);
         let mut run = || load.take().expect("a load runs once")();
         loop {
             let (era, mut left) = (self.era(), Left::new(self));
-            let lead = |leads| self.lead(key, (era, leads), &mut run, &mut left);
+            let lead = |leads| self.lead(&key, (era, leads), &mut run, &mut left);
             let got = Asker::new().get(&self.group.shared, &key.name(era), None, lead);
             drop(left);
             let got = got.expect("a wait without a deadline");
-            if let Some(got) = self.got(key, &got, wants_missing) {
+            if let Some(got) = self.got(&key, &got, wants_missing) {
                 return got;
             }
         }

@@ -75,8 +75,8 @@ pub(super) enum Verdict {
     Newer,
 }
 
-/// A value that a call of [`crate::Cache::read`] reads, if there is one. It stays where it is made: a
-/// processor waits for what it copies right after it was written in parts.
+/// The value that a call of [`crate::Cache::read`] reads, if there is one. It is filled in place and
+/// never moved: a move would load what was stored in parts just before, which stalls the processor.
 pub(super) struct Held<'a, V> {
     near: Option<(Hold<'a>, NonNull<V>)>,
     far: Option<Arc<V>>,
@@ -95,9 +95,9 @@ impl<V> Held<'_, V> {
     }
 }
 
-/// What few gets have of an entry that they find: its record; and its key, if it is due and this get
-/// is to begin its refresh.
-type Few<K> = (Option<Arc<ValueRecord>>, Option<K>);
+/// What a get has to do after some hits: the record that it enters; and the key, if it is to begin
+/// the refresh of its value.
+type AfterHit<K> = (Option<Arc<ValueRecord>>, Option<K>);
 
 impl<K, V, E> Inner<K, V, E>
 where
@@ -221,8 +221,8 @@ where
         });
     }
 
-    /// Calls `take` with the key's entry, if it is fresh; it returns whether it has taken something. It
-    /// takes no lock for that. A get that takes nothing of an entry has found it all the same.
+    /// Calls `take` with the key's entry if that is fresh, without a lock. `take` returns whether it
+    /// took something. A get that takes nothing of an entry has found it all the same.
     #[inline]
     fn find_by<'a, Q>(
         self: &'a Arc<Self>,
@@ -234,7 +234,7 @@ where
     {
         let places = &self.group.shared.places;
         let shard = self.shard(key.fingerprint);
-        let mut few = None;
+        let mut after = None;
         let near = shard.look(places, key.print(), key.key, |place, entry| {
             let verdict = self.verdict(entry, key.era, &mut place.handle);
             let Verdict::Fresh { is_due, now } = verdict else { return false };
@@ -242,17 +242,17 @@ where
             let is_taken = take(entry, Some(place));
             entry.mark();
             if now.is_some() || key.noted.is_some() {
-                few = Some(self.few(key, entry, is_taken, is_due, now));
+                after = Some(self.after_hit(key, entry, is_taken, is_due, now));
             }
             true
         });
         if near != Some(true) {
-            few = self.find_far(key, |entry| take(entry, None));
-            if few.is_none() {
+            after = self.find_far(key, |entry| take(entry, None));
+            if after.is_none() {
                 return;
             }
         }
-        if let Some((record, due)) = few {
+        if let Some((record, due)) = after {
             key.enters(record.as_ref());
             // First: if the recorder panics, nobody else would begin it.
             if let Some(due) = due {
@@ -264,15 +264,15 @@ where
         }
     }
 
-    /// What few gets have of an entry that was found, of which something was taken or not.
-    fn few<Q: ?Sized>(
+    /// What is to be done after a hit, of which something was taken or not.
+    fn after_hit<Q: ?Sized>(
         &self,
         key: &At<'_, Q>,
         entry: &Entry<K, V, E>,
         is_taken: bool,
         is_due: bool,
         now: Option<Moment>,
-    ) -> Few<K> {
+    ) -> AfterHit<K> {
         (key.record(entry).filter(|_| is_taken), self.found(entry, is_due, now))
     }
 
@@ -294,7 +294,7 @@ where
         &self,
         key: &At<'_, Q>,
         take: impl FnOnce(&Entry<K, V, E>) -> bool,
-    ) -> Option<Few<K>>
+    ) -> Option<AfterHit<K>>
     where
         K: Borrow<Q>,
         Q: Hash + Eq + ?Sized,
@@ -311,7 +311,7 @@ where
             seat.hits += 1;
             let is_taken = take(entry);
             entry.mark();
-            (verdict, Some(self.few(key, entry, is_taken, is_due, now)))
+            (verdict, Some(self.after_hit(key, entry, is_taken, is_due, now)))
         });
         let reason = match verdict {
             Some(Verdict::Forgotten) => Some(Reason::Forgotten),
