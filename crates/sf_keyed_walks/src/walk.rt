@@ -1,6 +1,7 @@
 //! A walk over the slot of a name: an asking, which leads or joins, and a Forget.
 ghost use Rattle.std.specs.Prelude.{◌≡◌, ◌≢◌, ◌+◌, ◌/◌, ◌%◌, ◌<◌, ◌≤◌, ◌^◌, ℕ, true, false, Some, None};
 ghost use Rattle.sf_keyed_words.specs.Rule.{is_open_call, number};
+ghost use Rattle.sf_keyed_words.specs.Plays.{begun_as, named_as};
 ghost use Rattle.sf_keyed_words.specs.Rule.{hash_of as the_hash_of, slot_of as the_slot_of};
 ghost use Rattle.sf_keyed_walks.specs.Walk.{IsLaid, Examined, Stays, HasLooked, MetNone, Shown, Began, WentThrough, HasMet, HasLed, HasJoined, HasClosed, HasNone, HasOther, HasSealed, HasSwept, IsGone, KeepsCalls};
 ghost use Rattle.sf_keyed_walks.specs.declared.walk.Walked.{Walked as WalkedFields};
@@ -11,8 +12,8 @@ ghost use Rattle.sf_keyed_walks.specs.declared.walk.Passed.TheVariants as passed
 ghost use Rattle.sf_keyed_walks.specs.declared.walk.Swept.TheVariants as swept;
 
 use sf_keyed_words::steps::{
-    KeyedSeat, Words, close, confirm, find_none, join, lead, look_side, look_top, read, read_low,
-    seal, see, set_aside, store_high, store_low,
+    KeyedSeat, Words, close, confirm, find_high, find_low, find_none, join, lead, look_side,
+    look_top, read, read_low, seal, see, set_aside, store_high, store_low,
 };
 use sf_keyed_words::{KeyedSizes, Name};
 
@@ -341,6 +342,24 @@ pub fn ask_once(
     }
 }
 
+// Names the seat's own call. Each store waits until all processors see it, so a word that the cell has from a call before is left: a caller
+// that leads one key again and again stores no name.
+fn name_own(words: &Words, seat: &mut KeyedSeat, sizes: KeyedSizes, own: u64, name: Name)
+    requires own { seat.old.table_id ≡ words.now.table_id }
+    requires laid { IsLaid words.now.key words.now.table_id.words sizes }
+    requires call { (seat.old.me.0.own ≡ own) × (own ≢ 0) × (own % 1048576 < sizes.cells) }
+    ensures own { seat.new.table_id ≡ seat.old.table_id }
+    ensures named { seat.new.me.0 ≡ named_as (begun_as seat.old.me.0 name.low) name.high }
+{
+    let cell = sizes.tops + sizes.sides + 8 * (own % 1_048_576);
+    if find_low(words, seat, cell + 1) != name.low {
+        store_low(words, seat, cell + 1, name.low);
+    }
+    if find_high(words, seat, cell + 2) != name.high {
+        store_high(words, seat, cell + 2, name.high);
+    }
+}
+
 // Leads the seat's own call at the end of a walk, from this top word.
 fn lead_after(
     words: &Words,
@@ -373,9 +392,7 @@ fn lead_after(
     if own == 0 {
         return Asked::NoCell;
     }
-    let cell = sizes.tops + sizes.sides + 8 * (own % 1_048_576);
-    store_low(words, seat, cell + 1, name.low);
-    store_high(words, seat, cell + 2, name.high);
+    name_own(words, seat, sizes, own, name);
     let new = if on.marks { own * 4 + 1 } else { own * 4 };
     if lead(words, seat, slot, found, new) == found {
         Asked::Led

@@ -10,7 +10,7 @@ use Rattle.sf_keyed_laws.specs.Words.{Words}
 use Rattle.sf_keyed_words.specs.declared.rule.KeyedSizes.{KeyedSizes}
 use Rattle.sf_keyed_words.specs.declared.rule.View.{View}
 use Rattle.sf_keyed_words.specs.Rule.{side_at, state_at, name_at, high_at, both, NameIs, value_at, gen_of, held_of, is_open_word, IsOwn, IsLeads, IsView, stake, Holds}
-use Rattle.sf_keyed_words.proofs.Seats.{name_kept, made, view_away, Away}
+use Rattle.sf_keyed_words.proofs.Seats.{name_kept, made, still, view_away, Away}
 use Rattle.sf_keyed_words.proofs.Results.{says_on}
 use Rattle.sf_keyed_words.proofs.States.{own_never, last_never, whole, one_call, open_parts, ready_gen, ready_tag}
 use Rattle.std.proofs.lemmas.List.{length-set, get_or-set_same, get_or-set_other}
@@ -154,6 +154,65 @@ names z slots id high me any_own begun = stores_name z slots id 2 high me me.0.f
     let small = b.1 in
     let low : slice_index ws2 (name_at z me.0.own) ≡ me.0.start = set.else (name_at z me.0.own) (λ q. omega (arith, q)) ∙ b.0 in
     (λ _. (low, small), λ _. record { low = low ∙ omega (arith, small); high = set.here ∙ omega (arith, small) }))
+
+-- a load of the own cell's lower word, which is its name's as if it were stored anew
+pub finds_low : (z : KeyedSizes) (slots id : ℕ) (me : Me ℕ View) → me.0.own ≢ 0 → Allows (Holds z) slots id me (name_at z me.0.own) (λ n. n) (λ n after. after.0 ≡ begun_as me.0 n)
+finds_low z slots id me any_own t p len is fits =
+    let v = me.0 in
+    let m = p.seats id v is in
+    let own = m.own any_own in
+    let i : ℕ = name_at z v.own in
+    let w : View = begun_as v (slice_index t.words i) in (
+      w,
+      keeps,
+      tt,
+      still z t p id i me w is (λ c. refl) (record {
+        seen = m.seen;
+        heard = m.heard;
+        look = m.look;
+        walk = m.walk;
+        own = λ _. record { new = own.new; holder_is = own.holder_is; within = own.within; state = own.state; name = λ no. absurd (true≢false (sym no)) };
+        begun = λ _ _. (refl, fits);
+        leads = m.leads;
+        ticket = m.ticket;
+        last = m.last;
+      }),
+      refl,
+    )
+
+-- and of the upper one
+pub finds_high : (z : KeyedSizes) (slots id : ℕ) (me : Me ℕ View) → me.0.own ≢ 0 → me.0.first ≡ true → Allows (Holds z) slots id me (high_at z me.0.own) (λ n. n) (λ n after. after.0 ≡ named_as me.0 n)
+finds_high z slots id me any_own first t p len is fits =
+    let v = me.0 in
+    let m = p.seats id v is in
+    let own = m.own any_own in
+    let begun = m.begun any_own first in
+    let small = begun.1 in
+    let i : ℕ = high_at z v.own in
+    let n : ℕ = slice_index t.words i in
+    let w : View = named_as v n in (
+      w,
+      keeps,
+      tt,
+      still z t p id i me w is (λ c. refl) (record {
+        seen = m.seen;
+        heard = m.heard;
+        look = m.look;
+        walk = m.walk;
+        own = λ _. record {
+          new = own.new;
+          holder_is = own.holder_is;
+          within = own.within;
+          state = own.state;
+          name = λ _. record { low = begun.0 ∙ omega (arith, small); high = omega (arith, small) };
+        };
+        begun = m.begun;
+        leads = m.leads;
+        ticket = m.ticket;
+        last = m.last;
+      }),
+      refl,
+    )
 
 pub stores : (z : KeyedSizes) (slots id value : ℕ) (me : Me ℕ View) → me.0.leads ≢ 0 → Allows (Holds z) slots id me (value_at z me.0.leads) (λ _. value) (λ _ after. after.0 ≡ stored_as me.0 value)
 stores z slots id value me any_lead t p len is fits =

@@ -274,6 +274,26 @@ impl Play<u8, View> for Names {
     ghost then = { λ step before word after. after.0 ≡ named_as before.0 step.first };
 }
 
+/// A load of the lower word that the cell of the seat's own call has, from a call before.
+pub struct FindsLow;
+
+impl Play<u8, View> for FindsLow {
+    ghost use Rattle.std.specs.Prelude.{◌≡◌};
+    ghost use Rattle.sf_keyed_words.specs.Plays.{begun_as};
+
+    ghost then = { λ step before word after. after.0 ≡ begun_as before.0 word };
+}
+
+/// A load of the upper one.
+pub struct FindsHigh;
+
+impl Play<u8, View> for FindsHigh {
+    ghost use Rattle.std.specs.Prelude.{◌≡◌};
+    ghost use Rattle.sf_keyed_words.specs.Plays.{named_as};
+
+    ghost then = { λ step before word after. after.0 ≡ named_as before.0 word };
+}
+
 /// An exchange of a free cell's state.
 pub struct Claims;
 

@@ -5,9 +5,9 @@ ghost use Rattle.sf_keyed_words.specs.Plays.{look_cell as the_look_cell};
 ghost use Rattle.sf_keyed_words.specs.Plays.{walks_from, walks_on, see_state, confirms, read_low, read_high, begun_as, named_as, stored_as, try_claim, tries_lead, try_aside, tries_seal, tries_join, settles, tries_alone, tries_close, finds_none, look_settled, takes, takes_last, lets_go, given_back};
 
 use crate::rule::{
-    Begins, Claims, Closes, Confirms, FindsNone, GivesBack, Joins, KeyedSizes, Law, Leads, Lets,
-    LooksAside, LooksAtCell, LooksAtTop, Names, Reads, ReadsLow, Seals, Sees, SetsAside, Settles,
-    SettlesAlone, Stores, Takes, TakesLast, View, Waits,
+    Begins, Claims, Closes, Confirms, FindsHigh, FindsLow, FindsNone, GivesBack, Joins, KeyedSizes,
+    Law, Leads, Lets, LooksAside, LooksAtCell, LooksAtTop, Names, Reads, ReadsLow, Seals, Sees,
+    SetsAside, Settles, SettlesAlone, Stores, Takes, TakesLast, View, Waits,
 };
 use atomic_table::{Seat, Shared};
 
@@ -119,6 +119,30 @@ pub fn store_high(words: &Words, seat: &mut KeyedSeat, at: u64, high: u64)
     ensures view { seat.new.me.0 ≡ named_as seat.old.me.0 high }
 {
     words.store::<Names>(seat, at as usize, high);
+}
+
+/// Loads the lower word of a name that the cell of the seat's own call has, from a call before.
+pub fn find_low(words: &Words, seat: &mut KeyedSeat, at: u64) -> u64
+    requires own { seat.old.table_id ≡ words.now.table_id }
+    requires size { words.now.table_id.words ≡ word_total words.now.key }
+    requires at { (at ≡ words.now.key.tops + words.now.key.sides + 8 * (seat.old.me.0.own % 1048576) + 1) × (seat.old.me.0.own % 1048576 < words.now.key.cells) }
+    requires call { seat.old.me.0.own ≢ 0 }
+    ensures own { seat.new.table_id ≡ seat.old.table_id }
+    ensures view { seat.new.me.0 ≡ begun_as seat.old.me.0 result }
+{
+    words.load::<FindsLow>(seat, at as usize)
+}
+
+/// Loads the upper word, after the lower one.
+pub fn find_high(words: &Words, seat: &mut KeyedSeat, at: u64) -> u64
+    requires own { seat.old.table_id ≡ words.now.table_id }
+    requires size { words.now.table_id.words ≡ word_total words.now.key }
+    requires at { (at ≡ words.now.key.tops + words.now.key.sides + 8 * (seat.old.me.0.own % 1048576) + 2) × (seat.old.me.0.own % 1048576 < words.now.key.cells) }
+    requires call { (seat.old.me.0.own ≢ 0) × (seat.old.me.0.first ≡ true) }
+    ensures own { seat.new.table_id ≡ seat.old.table_id }
+    ensures view { seat.new.me.0 ≡ named_as seat.old.me.0 result }
+{
+    words.load::<FindsHigh>(seat, at as usize)
 }
 
 /// Stores the value of the call that the seat leads.
