@@ -180,18 +180,36 @@ func leastOf(rounds int, run func() float64) string {
 	return fmt.Sprintf("%.0f (%.0f)", all[0], all[len(all)/2])
 }
 
-// both measures the two groups in rounds that alternate, and returns the least and the median of each.
-func both(rounds int, run func(g group) float64) (own, other string) {
-	g, o := new(ours.Group), new(theirs.Group)
-	defer g.Close()
-	for _, it := range []group{g, o} {
-		// The group is made at its first call.
+// Two groups that were made, each at its first call.
+func pair() (own *ours.Group, other group) {
+	own, other = new(ours.Group), new(theirs.Group)
+	for _, it := range []group{own, other} {
 		it.Do("", func() (any, error) { return nil, nil })
 	}
+	return own, other
+}
+
+// both measures two groups in rounds that alternate, and returns the least and the median of each.
+func both(rounds int, run func(g group) float64) (own, other string) {
+	g, o := pair()
+	defer g.Close()
+	return leastOfBoth(rounds, func() (float64, float64) { return run(g), run(o) })
+}
+
+// bothAnew measures new groups in each round, since by a group's seeds two keys may have words in one line of memory.
+func bothAnew(rounds int, run func(g group) float64) (own, other string) {
+	return leastOfBoth(rounds, func() (float64, float64) {
+		g, o := pair()
+		defer g.Close()
+		return run(g), run(o)
+	})
+}
+
+func leastOfBoth(rounds int, run func() (own, other float64)) (own, other string) {
 	var others []float64
 	own = leastOf(rounds, func() float64 {
-		took := run(g)
-		others = append(others, run(o))
+		took, took2 := run()
+		others = append(others, took2)
 		return took
 	})
 	other = leastOf(rounds, func() float64 {
@@ -262,7 +280,7 @@ func main() {
 	fmt.Printf("the least of %d rounds (their median)\n", rounds)
 	for _, what := range []string{"own keys", "one hot key"} {
 		for _, goroutines := range []int{1, 2, 4, 8} {
-			own, other := both(rounds, func(g group) float64 { return each(g, goroutines, what != "own keys") })
+			own, other := bothAnew(rounds, func(g group) float64 { return each(g, goroutines, what != "own keys") })
 			fmt.Printf("%s, %d goroutines: %s ns a Do; x/sync %s ns\n", what, goroutines, own, other)
 		}
 	}
