@@ -5,7 +5,7 @@ import java.util.Random;
 
 /** Times of a hit in Caffeine, with its counters, after rounds that warm the virtual machine up; tools/caches/run runs it. */
 class CaffeineFigures {
-    static final int ROUNDS = 451, WARM = 200, GETS = 40_000, DRAWN = 1 << 16, KEYS = 1000;
+    static final int ROUNDS = 225, WARM = 200, GETS = 40_000, DRAWN = 1 << 16, KEYS = 1000;
 
     /** The keys that a thread gets, by turns: one, or of 1,000 by zipf. */
     static String[] keys(int thread, boolean zipf) {

@@ -8,7 +8,7 @@
 #include <string.h>
 #include <time.h>
 
-enum { ROUNDS = 451, GETS = 40000, DRAWN = 1 << 16, KEYS = 1000, TRACE = 1000000, TRACE_KEYS = 100000, VALUES = 4000, MOST = 4 };
+enum { ROUNDS = 225, GETS = 40000, DRAWN = 1 << 16, KEYS = 1000, TRACE = 1000000, TRACE_KEYS = 100000, VALUES = 4000, MOST = 4 };
 
 typedef struct {
     char text[24];

@@ -22,7 +22,7 @@ import (
 )
 
 const (
-	rounds = 45
+	rounds = 225 // of hits: as many as those of Caffeine, C and Rust, since the least depends on that
 	gets   = 40000
 	drawn  = 1 << 16
 	page   = "<html></html>"
@@ -185,7 +185,7 @@ func round(c cache, lists [][]string) float64 {
 }
 
 // The rounds of all caches alternate.
-func compare(name string, goroutines int, caches []cache, lists func(round, goroutine int) []string) {
+func compare(name string, rounds, goroutines int, caches []cache, lists func(round, goroutine int) []string) {
 	times := make([][]float64, len(caches))
 	for n := 0; n < rounds; n++ {
 		for i, c := range caches {
@@ -231,7 +231,7 @@ func main() {
 				c.get(keyOf(1))
 				c.wait()
 			}
-			compare("one key", goroutines, caches, func(_, g int) []string { return one[g] })
+			compare("one key", rounds, goroutines, caches, func(_, g int) []string { return one[g] })
 			var many [4][]string
 			for g := range many {
 				many[g] = zipf(int64(g), 1000, drawn)
@@ -243,7 +243,7 @@ func main() {
 				}
 				c.wait()
 			}
-			compare("1,000 keys by zipf", goroutines, caches, func(_, g int) []string { return many[g] })
+			compare("1,000 keys by zipf", rounds, goroutines, caches, func(_, g int) []string { return many[g] })
 		}
 	}
 	if is("misses") {
@@ -257,7 +257,7 @@ func main() {
 					each[g][n] = keyOf(uint64(g*gets + n))
 				}
 			}
-			compare("a miss", goroutines, caches, func(_, g int) []string { return each[g] })
+			compare("a miss", rounds/5, goroutines, caches, func(_, g int) []string { return each[g] })
 		}
 	}
 	if is("ratios") {

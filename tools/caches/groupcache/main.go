@@ -13,7 +13,7 @@ import (
 )
 
 const (
-	rounds = 45
+	rounds = 225
 	gets   = 40000
 	drawn  = 1 << 16
 )

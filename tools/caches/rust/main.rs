@@ -8,7 +8,8 @@ use std::sync::atomic::{AtomicU64, Ordering::Relaxed};
 use std::sync::{Arc, Barrier, Condvar, Mutex};
 use std::time::Instant;
 
-const ROUNDS: usize = 135;
+/// Of hits: as many as those of Caffeine, C and Go, since the least depends on that.
+const ROUNDS: usize = 225;
 const GETS: usize = 40_000;
 const DRAWN: usize = 1 << 16;
 const PAGE: &str = "<html></html>";
@@ -144,13 +145,13 @@ fn round(cache: &dyn Loads, lists: &[Vec<&str>]) -> f64 {
 }
 
 /// The rounds of all caches alternate.
-fn compare(what: &str, values: usize, lists: &[Vec<&str>], warm: &[String]) {
-    let caches = make(values);
+fn compare(what: &str, rounds: usize, lists: &[Vec<&str>], warm: &[String]) {
+    let caches = make(4000);
     for (cache, key) in caches.iter().flat_map(|cache| warm.iter().map(move |key| (cache, key))) {
         cache.get(key, &|| PAGE.to_string());
     }
     let mut times = vec![Vec::new(); caches.len()];
-    for _ in 0..ROUNDS {
+    for _ in 0..rounds {
         for (cache, times) in caches.iter().zip(&mut times) {
             times.push(round(&**cache, lists));
         }
@@ -162,7 +163,7 @@ fn compare(what: &str, values: usize, lists: &[Vec<&str>], warm: &[String]) {
             cache.name(),
             lists.len(),
             times[0],
-            times[ROUNDS / 2]
+            times[rounds / 2]
         );
     }
 }
@@ -178,16 +179,16 @@ fn main() {
     println!("A hit: ns, all threads together, divided by their gets");
     let all: Vec<_> = (0..1000).map(key_of).collect();
     for threads in [1, 4] {
-        compare("one key", 4000, &vec![vec![&*all[1]]; threads], &all[1..2]);
+        compare("one key", ROUNDS, &vec![vec![&*all[1]]; threads], &all[1..2]);
         let many: Vec<_> = (0..threads).map(|seed| zipf(seed as u64, &all, DRAWN)).collect();
-        compare("1,000 keys by zipf", 4000, &many, &all);
+        compare("1,000 keys by zipf", ROUNDS, &many, &all);
     }
     println!("A miss with an empty load, in a full cache of 4,000 values: ns");
     for threads in [1, 4] {
         let all: Vec<_> = (0..threads * GETS).map(|n| key_of(n as u64)).collect();
         let lists: Vec<Vec<_>> =
             all.chunks(GETS).map(|own| own.iter().map(|key| &**key).collect()).collect();
-        compare("a miss", 4000, &lists, &[]);
+        compare("a miss", ROUNDS / 5, &lists, &[]);
     }
     println!("Hit ratio of 1,000,000 gets over 100,000 keys by zipf: %");
     let all: Vec<_> = (0..100_000).map(key_of).collect();
