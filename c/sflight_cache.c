@@ -163,9 +163,10 @@ struct ghost {
     uint16_t tag, group;
 };
 
+/* What hits read shares no line with what misses write. */
 struct shard {
-    _Alignas(CACHE_LINE) pthread_mutex_t lock; /* protects the rest */
-    _Atomic(struct table *) table;
+    _Alignas(CACHE_LINE) _Atomic(struct table *) table; /* changed with the lock */
+    _Alignas(CACHE_LINE) pthread_mutex_t lock;          /* protects the rest */
     uint64_t entries;
     struct queue queues[IN_MAIN + 1];
     struct ghost *ghosts;
@@ -181,11 +182,7 @@ struct sflight_cache {
     sflight_cache_options options;
     uint64_t seeds[3];
     unsigned count; /* of shards */
-    atomic_llong room; /* what is left of the limit; below 0 while the cache is made smaller */
     _Atomic(uint64_t) limit;
-    atomic_ullong hits, misses;            /* of threads without a seat */
-    atomic_ullong repeats, stale; /* repeats: calls that were joined, and not by a get for good */
-    atomic_ullong other_forgets;  /* Forgets that the pool does not count, less those that it counts besides */
     _Atomic(int64_t) eras[ERAS]; /* how far the wall clock is ahead of the steady one, as births saw it; or NO_ERA */
     atomic_uint era;             /* that of the last birth */
     int64_t tick;                /* a step in which hits are written down */
@@ -196,7 +193,11 @@ struct sflight_cache {
     _Atomic(atomic_ullong *) ages; /* of tags; null until one is forgotten */
     atomic_uint *forgets;          /* that have begun, by the hash of their key */
     uint64_t cells, forget_cells;  /* of each; powers of two */
-    pthread_mutex_t lock; /* protects the rest, and changes of the limit */
+    _Alignas(CACHE_LINE) atomic_llong room; /* what is left of the limit; below 0 while the cache is made smaller */
+    atomic_ullong hits, misses;             /* of threads without a seat */
+    atomic_ullong repeats, stale;           /* repeats: calls that were joined, and not by a get for good */
+    atomic_ullong other_forgets;            /* Forgets that the pool does not count, less those that it counts besides */
+    pthread_mutex_t lock;                   /* protects the rest, and changes of the limit */
     pthread_cond_t is_idle;
     bool is_closing;  /* nothing is kept any more; set before the shards are emptied, and while nothing runs */
     uint64_t running; /* loads in the background */

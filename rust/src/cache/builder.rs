@@ -1,7 +1,7 @@
 //! The parts of a cache before it is made.
 
 use super::loads::Fetched;
-use super::shard::{Shard, Yard};
+use super::shard::{Apart, Shard, Yard};
 use super::stats::{Counts, Reason, Recorder};
 use super::tags::Tags;
 use super::times::{nanoseconds, Clock, Eras};
@@ -419,9 +419,9 @@ where
             eras: Eras::new(),
             invalidations: (0..counts.next_power_of_two()).map(|_| AtomicU32::new(0)).collect(),
             limit: AtomicU64::new(limit),
-            weight: AtomicU64::new(0),
-            drawn: AtomicU64::new(0),
-            counts: Counts::default(),
+            weight: Apart(AtomicU64::new(0)),
+            drawn: Apart(AtomicU64::new(0)),
+            counts: Apart(Counts::default()),
             recordings: group.shared.recordings.clone(),
             group,
             has_times: [options.ttl, options.idle, options.refresh].iter().any(|it| *it < u64::MAX),

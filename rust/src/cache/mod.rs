@@ -38,7 +38,7 @@ use keep::{Begun, Kept, Left, Since};
 pub use loads::{Fetched, LoadError};
 use loads::{Got, Outcome};
 use look::Held;
-use shard::{Shard, Yard};
+use shard::{Apart, Shard, Yard};
 use stats::{add, Counts};
 pub use stats::{CacheStats, Reason, Recorder};
 use tags::{tag_of, Tags};
@@ -72,10 +72,10 @@ struct Inner<K, V, E> {
     /// By a part of the fingerprints, how many invalidations of keys have begun.
     invalidations: Box<[AtomicU32]>,
     limit: AtomicU64,
-    weight: AtomicU64,
+    weight: Apart<AtomicU64>,
     /// How many times to live were drawn.
-    drawn: AtomicU64,
-    counts: Counts,
+    drawn: Apart<AtomicU64>,
+    counts: Apart<Counts>,
     /// Whether all values have a time after which they are not as good.
     has_times: bool,
     options: Options<K, V, E>,

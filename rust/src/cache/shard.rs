@@ -13,6 +13,7 @@ use crate::shared::Shared;
 use crate::sync::{lock, point};
 use std::alloc::{alloc_zeroed, Layout};
 use std::borrow::Borrow;
+use std::ops::Deref;
 use std::ptr::{null, null_mut, NonNull};
 use std::sync::atomic::{
     AtomicPtr, AtomicUsize,
@@ -64,9 +65,22 @@ struct Locked<K, V, E> {
     ghosts: Vec<[u32; ROW]>,
 }
 
+/// A value in lines of memory of its own: what hits read shares no line with what misses write.
+/// Processors may fetch lines by two.
+#[repr(align(128))]
+pub(super) struct Apart<T>(pub(super) T);
+
+impl<T> Deref for Apart<T> {
+    type Target = T;
+
+    fn deref(&self) -> &T {
+        &self.0
+    }
+}
+
 pub(super) struct Shard<K, V, E> {
     table: AtomicPtr<Table<K, V, E>>,
-    locked: Mutex<Locked<K, V, E>>,
+    locked: Apart<Mutex<Locked<K, V, E>>>,
 }
 
 // SAFETY: what the pointers lead to are entries, which may be sent and shared, and which the lock
@@ -127,7 +141,7 @@ impl<K, V, E> Shard<K, V, E> {
         let queues = [SMALL, MAIN].map(|_| Queue { front: null(), back: null(), len: 0 });
         let locked = Locked { tables, len: 0, queues, ghosts: Vec::new() };
         let table = AtomicPtr::new(locked.tables[0].as_ptr());
-        Some(Shard { table, locked: Mutex::new(locked) })
+        Some(Shard { table, locked: Apart(Mutex::new(locked)) })
     }
 
     /// Runs with the key's entry, without a lock. `None` where it finds none, which may be there all
@@ -187,7 +201,7 @@ impl<K, V, E> Shard<K, V, E> {
 impl<K, V, E> Drop for Shard<K, V, E> {
     fn drop(&mut self) {
         // Nobody reads any more: each that does has a reference to the cache.
-        let locked = self.locked.get_mut().unwrap_or_else(|poisoned| poisoned.into_inner());
+        let locked = self.locked.0.get_mut().unwrap_or_else(|poisoned| poisoned.into_inner());
         while let Some(entry) = locked.first() {
             locked.remove(entry);
             // SAFETY: it is in no table and no queue any more, and was there as a box.
