@@ -460,16 +460,16 @@ func (f *fill[K, V]) put(
 func (f *fill[K, V]) settle(
 	a *asking, n *node[K, V], last *atomic.Uint64, number uint64,
 ) (kept bool, out []*node[K, V]) {
-	r := Result{Val: n, Err: errAgain}
+	a.got = Result{Val: n, Err: errAgain}
 	if last.Load() == number {
 		if rec := a.record(); rec != nil {
 			rec.begins()
 			n.isRecorded(rec)
 		}
 		kept, out = f.values.keep(n, a.stamp.packed())
-		r.Err = nil
+		a.got.Err = nil
 	}
-	f.p.ends(&r, a)
+	f.p.ends(a)
 	return kept, out
 }
 

@@ -89,6 +89,7 @@ type asking struct {
 	asked
 	own   flight // what the table knows of it
 	call  *call  // in the library's table none of a leader, unless it has to share something
+	got   Result // of a leader, once it has called its function; of others, once the call has ended
 	leads bool
 	// Whether it does neither, since the key's call has as many holders as can be counted.
 	isCrowded bool
@@ -168,8 +169,8 @@ func (a *asking) record() *callRecord {
 }
 
 // ends settles the call that was led, tells those who have joined, and completes the result.
-func (p *core) ends(r *Result, a *asking) {
-	rec := a.record()
+func (p *core) ends(a *asking) {
+	r, rec := &a.got, a.record()
 	if rec != nil && rec.value != nil {
 		rec.loaded(r.Err)
 	} else if rec != nil {
@@ -194,14 +195,14 @@ func (p *core) ends(r *Result, a *asking) {
 		}
 	}
 	point(beforeWake)
-	p.tell(r, a)
+	p.tell(a)
 }
 
 // tell gives the result to those who have joined, and wakes them.
-func (p *core) tell(r *Result, a *asking) {
+func (p *core) tell(a *asking) {
 	c := a.call
 	acquire(&c.mu)
-	c.got, c.ready = *r, true
+	c.got, c.ready = a.got, true
 	isLost := (c.cancel != nil || c.isBehind) && !c.waits && c.holders.Load() == 1
 	done, told := c.done, c.told
 	c.told = nil
@@ -214,7 +215,7 @@ func (p *core) tell(r *Result, a *asking) {
 	}
 	p.leaves(a, true)
 	if isLost {
-		p.lost(r.Err)
+		p.lost(a.got.Err)
 	}
 }
 
@@ -231,22 +232,22 @@ func (p *core) leaves(a *asking, hasEnded bool) {
 }
 
 // joins waits for the call that was joined, or until stop is closed.
-func (p *core) joins(r *Result, a *asking, stop <-chan struct{}) outcome {
+func (p *core) joins(a *asking, stop <-chan struct{}) outcome {
 	c := a.call
 	point(beforeSleep)
 	if !await(c.done, stop) && p.gives(a) {
 		return left
 	}
 	await(c.done, nil)
-	return p.takes(r, a)
+	return p.takes(a)
 }
 
 // takes takes the result of a call that has ended.
-func (p *core) takes(r *Result, a *asking) outcome {
+func (p *core) takes(a *asking) outcome {
 	c := a.call
 	how := again
 	if err := c.got.Err; err != errAgain && (err == nil || !c.ended) {
-		*r, how = c.got, settled
+		a.got, how = c.got, settled
 		a.holds()
 	}
 	a.enter()
