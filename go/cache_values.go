@@ -322,14 +322,6 @@ func (t *values[K, V]) find(key K, print uint32) *node[K, V] {
 	return n
 }
 
-// isCurrent tells whether the node's value may be used: no Forget of its key, and none of its tags,
-// has returned since its load began. Of the key the library says so. A true
-// answer is counted as a hit in by, unless that is nil.
-func (t *values[K, V]) isCurrent(n *node[K, V], by *tally) bool {
-	point(beforeLook)
-	return t.room.tags.areCurrent(n.extras) && t.p.table.isHit(n.stamp(), by)
-}
-
 // A state is what a look finds of a node.
 type state uint8
 
@@ -342,11 +334,28 @@ const (
 	isDue // fresh, and to be refreshed
 )
 
-// stateOf returns the state of a node that is current, and its age by the steady clock where it has a life.
-func (t *values[K, V]) stateOf(n *node[K, V]) (is state, steady time.Duration) {
-	if !n.hasLife() {
-		return isFresh, 0
+// stateOf returns the state of a node, and its age by the steady clock where it has a life. One that is fresh is counted as a hit in
+// by, unless that is nil.
+//
+// The node's value may be used if no Forget of its key, and none of its tags, has returned since its load began. Of the key the
+// library says so.
+func (t *values[K, V]) stateOf(n *node[K, V], by *tally) (is state, steady time.Duration) {
+	is = isFresh
+	if n.hasLife() {
+		is, steady = t.stageOf(n)
 	}
+	if is < isFresh {
+		by = nil
+	}
+	point(beforeLook)
+	if !t.room.tags.areCurrent(n.extras) || !t.p.isStill(n.stamp(), by) {
+		is = isForgotten
+	}
+	return is, steady
+}
+
+// stageOf returns the state of a node that has a life and is current, and its age.
+func (t *values[K, V]) stageOf(n *node[K, V]) (is state, steady time.Duration) {
 	l := &t.room.lives
 	age, steady := n.age(l.clock())
 	switch past := n.past(age, l); {
@@ -358,6 +367,38 @@ func (t *values[K, V]) stateOf(n *node[K, V]) (is state, steady time.Duration) {
 		return isDue, steady
 	}
 	return isFresh, steady
+}
+
+// hit returns the key's node and its state. One that is fresh is found: see found. It takes out none, and does not find what moves: look
+// does. Nobody records.
+func (t *values[K, V]) hit(key K, print uint32, by *tally) (n *node[K, V], is state) {
+	n = t.shard(print).find(key, print)
+	if n == nil {
+		return nil, isNothing
+	}
+	if n.extras != nil {
+		return n, t.found(n, by)
+	}
+	// It has no life and no tags. This is what found does then, without its calls.
+	point(beforeLook)
+	if t.p.isStill(n.stamp(), by) {
+		n.mark()
+		is = isFresh
+	}
+	return n, is
+}
+
+// found returns the state of a node that a look has come to. One that is fresh is counted as a hit in by, unless that is nil, and it
+// is noted that it was found.
+func (t *values[K, V]) found(n *node[K, V], by *tally) state {
+	is, steady := t.stateOf(n, by)
+	if is >= isFresh {
+		n.mark()
+		if t.room.lives.idle > 0 {
+			n.meet(steady, &t.room.lives)
+		}
+	}
+	return is
 }
 
 // look returns the key's node if it is fresh, and whether it is due. One that cannot be used any more
@@ -375,13 +416,7 @@ func (t *values[K, V]) look(
 		// It has left since.
 		return t.look(key, print, w, by)
 	}
-	is, steady := t.stateOf(n)
-	if is < isFresh {
-		by = nil
-	}
-	if !t.isCurrent(n, by) {
-		is = isForgotten
-	}
+	is := t.found(n, by)
 	if w.by != nil && is < isFresh {
 		w.drops(n.record())
 	}
@@ -392,10 +427,6 @@ func (t *values[K, V]) look(
 		return nil, false, t.drop(n, ReasonExpired)
 	case isStale:
 		return nil, false, nil
-	}
-	n.mark()
-	if t.room.lives.idle > 0 {
-		n.meet(steady, &t.room.lives)
 	}
 	return n, is == isDue, nil
 }
@@ -409,8 +440,8 @@ func (t *values[K, V]) current(key K, print uint32) *node[K, V] {
 }
 
 func (t *values[K, V]) isAtLeast(n *node[K, V], least state) bool {
-	is, _ := t.stateOf(n)
-	return is >= least && t.isCurrent(n, nil)
+	is, _ := t.stateOf(n, nil)
+	return is >= least
 }
 
 // standIn returns the key's value that is to be returned in place of a load's error, if there is one.
@@ -439,7 +470,7 @@ func (t *values[K, V]) takeOut(key K, print uint32) *node[K, V] {
 	s := t.lock(print)
 	defer s.mu.Unlock()
 	n := s.find(key, print)
-	if n == nil || t.p.table.isStill(n.stamp()) {
+	if n == nil || t.p.isStill(n.stamp(), nil) {
 		return nil
 	}
 	t.remove(s, n, ReasonForgotten)
@@ -464,7 +495,7 @@ func (t *values[K, V]) keep(n *node[K, V], stamp Stamp) (kept bool, out []*node[
 	point(beforeKeep)
 	for try := 0; ; try++ {
 		s := t.lock(n.print)
-		if s.closed || !t.p.table.isStill(stamp) || !t.room.tags.areCurrent(n.extras) {
+		if s.closed || !t.p.isStill(stamp, nil) || !t.room.tags.areCurrent(n.extras) {
 			s.mu.Unlock()
 			return false, out
 		}

@@ -15,6 +15,8 @@ type core struct {
 	record   func(Load)
 	onPanic  func(value any, stack []byte)
 	recorder recorderPointer
+	isEnded  atomic.Bool // whether Close was called: no stamp is current any more
+	why      error       // there is no library
 	// Of recordings.
 	recording sync.Mutex
 	ledger    atomic.Pointer[ledger] // of a cache's core that is recorded
@@ -179,7 +181,7 @@ func (p *core) ends(a *asking) {
 	point(beforeSettle)
 	to := p.table.settle(a, rec != nil || a.over != nil)
 	r.Joiners, r.Shared, r.Stamp = to.joiners, to.isShared, a.stamp.packed()
-	if to.forgotten {
+	if to.forgotten || p.isEnded.Load() {
 		r.Stamp = Stamp{}
 	}
 	r.Call = Call{id: a.id, stamp: r.Stamp}
@@ -317,12 +319,24 @@ func (p *core) forgetsCall(key string, c Call) Hit {
 	by := p.recorder.Load()
 	from := by.now()
 	point(beforeForget)
-	hit := p.table.forgetCall(key, c)
+	hit := p.table.forgetCall(key, c, p.isEnded.Load())
 	point(afterForget)
 	if r := p.recorder.Load(); r != nil && hit == Closed {
 		r.forgot(forgetting{by, from, true}, key, c.id, true)
 	}
 	return hit
+}
+
+// isStill tells whether the stamp is current. It counts a true answer as a hit in by, unless that is nil.
+func (p *core) isStill(stamp Stamp, by *tally) bool {
+	return !p.isEnded.Load() && p.table.isStill(stamp, by)
+}
+
+func (p *core) err() error {
+	if p.isEnded.Load() {
+		return ErrClosed
+	}
+	return p.why
 }
 
 // A lazyCore is made when it is first asked for, if it was not before.
