@@ -175,14 +175,18 @@ func (n *node[K, V]) marks() uint32 { return atomic.LoadUint32(&n.flags) & flagM
 // tables ask for.
 type room struct {
 	limit  atomic.Int64
-	turn   atomic.Uint32   // which shard makes room for another next
-	weight atomic.Int64    // what is kept, and about to be; within the limit
 	begun  []atomic.Uint64 // by class: how many Forgets and Puts have begun, and where values have costs, loads
 	counts []counts
 	tags   tags
 	lives  lifetimes
 	era    extrasPointer // the latest; see eraOf
 	tells  bool          // whether there is a function of WithOnEvict
+
+	// Hits read what is above, and misses change this.
+	_      [cacheLine]byte
+	turn   atomic.Uint32 // which shard makes room for another next
+	weight atomic.Int64  // what is kept, and about to be; within the limit
+	_      [cacheLine]byte
 }
 
 // The hash of a key chooses the bucket by its lowest bits, the class by those from classBit on, and the
@@ -218,14 +222,17 @@ type values[K comparable, V any] struct {
 type valueShard[K comparable, V any] struct {
 	index   indexPointer  // the first node of each bucket
 	version atomic.Uint32 // odd while nodes move
-	mu      sync.Mutex    // protects the rest, and what is written above
-	closed  bool          // whether nothing is kept in it any more
-	nodes   int           // how many it has
-	weight  int64         // what they cost
-	queues  [2]queue[K, V]
-	ghosts  ghosts
-	passes  uint64   // how many nodes evictions have come to
-	_       [72]byte // to whole cache lines
+
+	// Hits read what is above, which seldom changes, and each miss changes this.
+	_      [cacheLine - 12]byte
+	mu     sync.Mutex // protects the rest, and what is written above
+	closed bool       // whether nothing is kept in it any more
+	nodes  int        // how many it has
+	weight int64      // what they cost
+	queues [2]queue[K, V]
+	ghosts ghosts
+	passes uint64   // how many nodes evictions have come to
+	_      [16]byte // to whole cache lines
 }
 
 func (s *valueShard[K, V]) queue(number int) *queue[K, V] { return &s.queues[number-1] }
