@@ -98,6 +98,7 @@ type asking struct {
 	stop      <-chan struct{} // closed when it is not to wait any more until one of them leaves
 	by        *recorder       // none where it is not recorded
 	from      int64           // when it began, where it is recorded
+	took      int64           // of a leader whose load is told of: when that began, and then how long it took
 	held      *callRecord     // of a cache's joiner: that of the value which it got
 	over      chan struct{}   // of a leader that waits for a run in another goroutine; closed when that has ended
 	after     func()          // to be called when all have the result
@@ -123,7 +124,23 @@ const (
 // asks begins an asking: it leads the key's new call, or has joined its open one. Where that is crowded, it waits until it is
 // not, or until the caller's end.
 func (p *core) asks(a *asking) {
-	for p.asksOnce(a); a.isCrowded && nap(a.stop); p.asksOnce(a) {
+	for {
+		by := p.recorder.Load()
+		if a.by = by; by != nil && by.isOfCache {
+			p.ledger.Load().asks(p, a)
+		} else {
+			a.from = by.now()
+			point(beforeAsk)
+			p.table.ask(a)
+			point(afterAsk)
+			if by != nil && a.leads {
+				p.table.share(a)
+				a.call.rec.Store(by.record(a.key, a.from))
+			}
+		}
+		if !a.isCrowded || !nap(a.stop) {
+			return
+		}
 	}
 }
 
@@ -143,22 +160,6 @@ func nap(stop <-chan struct{}) bool {
 		return false
 	case <-timer.C:
 		return true
-	}
-}
-
-func (p *core) asksOnce(a *asking) {
-	a.by = p.recorder.Load()
-	if a.by != nil && a.by.isOfCache {
-		p.ledger.Load().asks(p, a)
-		return
-	}
-	a.from = a.by.now()
-	point(beforeAsk)
-	p.table.ask(a)
-	point(afterAsk)
-	if a.by != nil && a.leads {
-		p.table.share(a)
-		a.call.rec.Store(a.by.record(a.key, a.from))
 	}
 }
 

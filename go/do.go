@@ -37,29 +37,28 @@ func goOnPanic(err error) {
 // lead calls fn, and settles the call that was led, also where fn panics or ends its goroutine. A panic goes on in this
 // goroutine, and where the leader waits in another, in that.
 func (p *core) lead(a *asking, fn func() (any, error)) {
-	r := &a.got
-	begun, returned := int64(0), false
+	returned := false
 	if p.record != nil {
-		begun = now()
+		a.took = now()
 	}
 	if rec := a.record(); rec != nil && rec.value == nil {
 		rec.begins()
 	}
 	defer func() {
 		if !returned {
-			r.Err = errGoexit
+			a.got.Err = errGoexit
 		}
 		if p.record != nil {
-			begun = now() - begun
+			a.took = now() - a.took
 		}
 		p.ends(a)
 		if p.record != nil || a.after != nil || a.over != nil {
-			p.led(a, time.Duration(begun))
+			p.led(a)
 		} else {
-			goOnPanic(r.Err)
+			goOnPanic(a.got.Err)
 		}
 	}()
-	calls(r, fn)
+	calls(&a.got, fn)
 	returned = true
 }
 
@@ -78,7 +77,7 @@ func calls(r *Result, fn func() (any, error)) {
 }
 
 // led tells whoever else is to be told of a load that has ended, after those who have joined.
-func (p *core) led(a *asking, took time.Duration) {
+func (p *core) led(a *asking) {
 	if a.after != nil {
 		// Also where it goes on to panic.
 		defer a.after()
@@ -92,7 +91,7 @@ func (p *core) led(a *asking, took time.Duration) {
 		}
 	}()
 	if p.record != nil {
-		p.record(Load{p.label, a.key, took, a.got.Joiners, a.got.Err})
+		p.record(Load{p.label, a.key, time.Duration(a.took), a.got.Joiners, a.got.Err})
 	}
 }
 
