@@ -55,14 +55,14 @@ type call struct {
 	done    chan struct{} // closed when got is there; made by the first who joins
 	rec     atomic.Pointer[callRecord]
 
-	mu       sync.Mutex         // protects the rest
-	ready    bool               // whether got is there; nothing changes then
-	waits    bool               // whether a leader waits for it that may leave
-	isBehind bool               // whether no leader ever waits for it: see doBehind
-	cancel   context.CancelFunc // tells the load to end; of such a leader, also when it has left
-	ended    bool               // whether that was called, since nobody waited
-	told     []func()           // to be called when got is there
-	got      Result
+	mu      sync.Mutex         // protects the rest
+	ready   bool               // whether got is there; nothing changes then
+	isApart bool               // whether its leader may leave, or there is none that waits: see apart
+	waits   bool               // whether that waits
+	cancel  context.CancelFunc // tells the load to end; of such a leader, also when it has left
+	ended   bool               // whether that was called, since nobody waited
+	told    []func()           // to be called when got is there
+	got     Result
 }
 
 // Which call of the group: see sflight_id in sflight.h. None has the generation 0.
@@ -206,7 +206,7 @@ func (p *core) tell(a *asking) {
 	c := a.call
 	acquire(&c.mu)
 	c.got, c.ready = a.got, true
-	isLost := (c.cancel != nil || c.isBehind) && !c.waits && c.holders.Load() == 1
+	isLost := c.isApart && !c.waits && c.holders.Load() == 1
 	done, told := c.done, c.told
 	c.told = nil
 	c.mu.Unlock()
@@ -347,8 +347,8 @@ type lazyCore struct {
 }
 
 func (l *lazyCore) core() *core {
-	if p := l.Load(); p != nil {
-		return p
+	if p := atomic.LoadPointer(&l.at); p != nil {
+		return (*core)(p)
 	}
 	return l.make()
 }

@@ -155,12 +155,7 @@ func (p *core) goOn(ctx context.Context, a *asking, fn loadFunc) (*Result, error
 // leadContext runs fn in a goroutine of its own, and waits for it no longer than the context.
 func (p *core) leadContext(ctx context.Context, a *asking, fn loadFunc) (*Result, error) {
 	own, cancel := context.WithCancel(detached{ctx})
-	a.over = make(chan struct{})
-	p.table.share(a)
-	c := a.call
-	acquire(&c.mu)
-	c.waits, c.cancel = true, cancel
-	c.mu.Unlock()
+	p.apart(a, cancel)
 	spawn(func() {
 		defer cancel()
 		p.lead(a, func() (any, error) { return fn(own, a) })
@@ -173,6 +168,16 @@ func (p *core) leadContext(ctx context.Context, a *asking, fn loadFunc) (*Result
 	return &a.got, a.got.Err
 }
 
+// apart has a call that is led run apart from its leader, who may leave; or for nobody, where there is no cancel.
+func (p *core) apart(a *asking, cancel context.CancelFunc) {
+	a.over = make(chan struct{})
+	p.table.share(a)
+	c := a.call
+	acquire(&c.mu)
+	c.isApart, c.waits, c.cancel = true, cancel != nil, cancel
+	c.mu.Unlock()
+}
+
 // doBehind is Do for nobody: it runs fn in this goroutine, unless the key has an open call. A panic of fn is told as one that
 // nobody waits for, unless somebody has joined.
 func (p *core) doBehind(ctx context.Context, key string, fn loadFunc) (joined bool) {
@@ -181,11 +186,7 @@ func (p *core) doBehind(ctx context.Context, key string, fn loadFunc) (joined bo
 	if !a.leads {
 		return p.parts(a)
 	}
-	a.over = make(chan struct{})
-	p.table.share(a)
-	acquire(&a.call.mu)
-	a.call.isBehind = true
-	a.call.mu.Unlock()
+	p.apart(a, nil)
 	p.lead(a, func() (any, error) { return fn(ctx, a) })
 	return false
 }

@@ -268,7 +268,6 @@ func (t *nativeTable) ask(a *asking) {
 		t.plain.ask(a)
 		return
 	}
-	a.isCrowded = false
 	for try := 1; ; try++ {
 		h := t.take()
 		seen, code, isDue := t.size.Load(), uint32(codeFull), false
@@ -281,7 +280,7 @@ func (t *nativeTable) ask(a *asking) {
 		if a.own.live {
 			code = cAsk(h, a)
 		}
-		switch a.leads = code == codeLed; code {
+		switch code {
 		case codeLed:
 			increment(&h.loads)
 		case codeJoined:
@@ -290,8 +289,10 @@ func (t *nativeTable) ask(a *asking) {
 			h.idle(&a.own)
 		}
 		h.put()
-		if code == codeLed || code == codeJoined {
-			if code == codeJoined {
+		a.leads, a.isCrowded = code == codeLed, code == codeCrowded
+		switch {
+		case code == codeLed, code == codeJoined:
+			if !a.leads {
 				t.share(a)
 				a.call.holders.Add(1)
 			}
@@ -300,30 +301,19 @@ func (t *nativeTable) ask(a *asking) {
 				t.look()
 			}
 			return
-		}
-		if t.hasAsked(a, code, seen, try) {
+		case a.isCrowded:
 			return
+		case code == codeFull && !t.grow(seen):
+			// There is no memory. It loads alone, and nobody can join it.
+			a.leads, a.asked = true, asked{stamp: Stamp{}.words()}
+			return
+		case try > mostYields:
+			// Another makes room.
+			time.Sleep(time.Millisecond)
+		default:
+			runtime.Gosched()
 		}
 	}
-}
-
-// hasAsked tells whether an asking is over that has neither led nor joined by so many tries. If not, it waits until it is to try again.
-func (t *nativeTable) hasAsked(a *asking, code uint32, seen uint64, try int) bool {
-	switch {
-	case code == codeFull && !t.grow(seen):
-		// There is no memory. It loads alone, and nobody can join it.
-		a.leads, a.asked = true, asked{stamp: Stamp{}.words()}
-		return true
-	case code == codeCrowded:
-		a.isCrowded = true
-		return true
-	case try > mostYields:
-		// Another makes room.
-		time.Sleep(time.Millisecond)
-	default:
-		runtime.Gosched()
-	}
-	return false
 }
 
 // look lets the group grow when half of the cells of the last table are in use, or about so many, so that nobody finds it full.
@@ -378,28 +368,22 @@ func (t *nativeTable) share(a *asking) {
 	if t.plain != nil || a.call != nil {
 		return
 	}
-	if !a.own.live {
-		// It loads alone.
-		a.call = newCall()
-		return
-	}
 	s := t.sharingOf(a.id)
 	s.mu.Lock()
 	defer s.mu.Unlock()
 	if a.call = s.calls[a.id]; a.call != nil {
 		return
 	}
+	a.call = &call{done: make(chan struct{})}
+	a.call.holders.Store(1)
+	if !a.own.live {
+		// It loads alone.
+		return
+	}
 	if s.calls == nil {
 		s.calls = map[callID]*call{}
 	}
-	a.call = newCall()
 	s.calls[a.id] = a.call
-}
-
-func newCall() *call {
-	c := &call{done: make(chan struct{})}
-	c.holders.Store(1)
-	return c
 }
 
 // drop is share's end, where nobody holds the call any more.
@@ -424,12 +408,14 @@ func (t *nativeTable) settle(a *asking, keeps bool) (to audience) {
 	increment(&h.ends)
 	if code == codeTold {
 		to = audience{h.told.joined || keeps, h.told.joined, int(h.told.holders) - 1, h.told.forgotten}
+		h.put()
 		if to.isTold {
-			h.put()
 			t.share(a)
-			return to
+		} else {
+			// A Forget has closed it, and nobody has joined it.
+			t.leave(a, true)
 		}
-		cLeave(h, &a.own)
+		return to
 	}
 	h.idle(&a.own)
 	h.put()
@@ -457,6 +443,7 @@ func (t *nativeTable) leave(a *asking, hasEnded bool) (last bool) {
 	return last
 }
 
+// forget closes the key's open call, which it names, if it has one, and ends the stamps of those before.
 func (t *nativeTable) forget(key string) (id callID, closed bool) {
 	if t.plain != nil {
 		return t.plain.forget(key)
@@ -464,15 +451,12 @@ func (t *nativeTable) forget(key string) (id callID, closed bool) {
 	for {
 		h := t.take()
 		code := cForget(h, key)
-		if code != codeBusy {
+		if id = h.id; code != codeBusy {
 			increment(&h.forgets)
-		}
-		if closed = code == codeDone; closed {
-			id = h.id
 		}
 		h.put()
 		if code != codeBusy {
-			return id, closed
+			return id, code == codeDone
 		}
 		runtime.Gosched()
 	}
