@@ -213,6 +213,14 @@ func (c *Cache[K, V]) GetWith(ctx context.Context, key K, load LoadFunc[K, V]) (
 
 func (c *Cache[K, V]) get(ctx context.Context, key K, load LoadFunc[K, V]) (V, error) {
 	f, print := c.now.Load(), c.printOf(key)
+	if f.p.recorder.Load() == nil {
+		if n, is := f.values.hit(key, print, &c.tally); is >= isFresh {
+			if is == isDue {
+				c.refresh(ctx, f, n, load)
+			}
+			return n.result()
+		}
+	}
 	w := f.p.watch()
 	n, isDue, gone := f.values.look(key, print, w, &c.tally)
 	if n == nil {
@@ -220,9 +228,7 @@ func (c *Cache[K, V]) get(ctx context.Context, key K, load LoadFunc[K, V]) (V, e
 		n, err := c.miss(ctx, f, key, print, load, gone, w.from)
 		return valueOf(n), err
 	}
-	if w.by != nil {
-		w.hit(n.record())
-	}
+	w.hit(n.record())
 	if isDue {
 		c.refresh(ctx, f, n, load)
 	}
@@ -359,9 +365,7 @@ func (c *Cache[K, V]) refill() (out []*node[K, V], f forgetOf) {
 	acquire(&c.mu)
 	old := c.now.Load()
 	p := newCore(&c.size)
-	if old.p.table.err() == ErrClosed {
-		p.table.close()
-	}
+	p.isEnded.Store(old.p.isEnded.Load())
 	if w := old.p.watch(); w.by != nil {
 		f = old.p.ledger.Load().forgetsAll(w)
 		p.records(w.by)
@@ -372,7 +376,7 @@ func (c *Cache[K, V]) refill() (out []*node[K, V], f forgetOf) {
 	c.mu.Unlock()
 	// Its calls are not joined any more, and their stamps are no later fill's. A Put that began before keeps its value in the
 	// old fill, if at all.
-	defer old.p.table.close()
+	defer old.p.isEnded.Store(true)
 	return old.values.close(ReasonForgotten), f
 }
 
@@ -460,16 +464,16 @@ func (f *fill[K, V]) put(
 func (f *fill[K, V]) settle(
 	a *asking, n *node[K, V], last *atomic.Uint64, number uint64,
 ) (kept bool, out []*node[K, V]) {
-	r := Result{Val: n, Err: errAgain}
+	a.got = Result{Val: n, Err: errAgain}
 	if last.Load() == number {
 		if rec := a.record(); rec != nil {
 			rec.begins()
 			n.isRecorded(rec)
 		}
 		kept, out = f.values.keep(n, a.stamp.packed())
-		r.Err = nil
+		a.got.Err = nil
 	}
-	f.p.ends(&r, a)
+	f.p.ends(a)
 	return kept, out
 }
 
@@ -520,7 +524,7 @@ func (c *Cache[K, V]) All(do func(key K, value V) bool) {
 func (c *Cache[K, V]) Close() {
 	acquire(&c.filling)
 	f := c.now.Load()
-	f.p.table.close()
+	f.p.isEnded.Store(true)
 	out := f.values.close(ReasonClosed)
 	c.filling.Unlock()
 	c.left(out)
@@ -532,7 +536,7 @@ func (c *Cache[K, V]) Name() string { return c.size.label }
 // Err tells why nothing is kept, which is ErrClosed after Close; or why plain Go says what is
 // current, and not the library: ErrMemory if there was no memory for its group, and ErrProcessor on
 // an x86-64 processor below v2. It is nil otherwise.
-func (c *Cache[K, V]) Err() error { return c.now.Load().p.table.err() }
+func (c *Cache[K, V]) Err() error { return c.now.Load().p.err() }
 
 // left tells of what has left. Nothing is locked, and the goroutine leads no call.
 func (c *Cache[K, V]) left(out []*node[K, V]) {

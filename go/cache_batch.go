@@ -72,7 +72,6 @@ type batchKey[K comparable, V any] struct {
 	loading[K, V]
 	asking
 	to     *Got[V]
-	waits  int  // how many waited for a call that was led
 	isOver bool // whether the call was settled, or its result taken
 }
 
@@ -232,7 +231,7 @@ func (b *batch[K, V]) ends() {
 		b.f.p.lost(b.failed)
 	}
 	if record := b.f.p.record; record != nil {
-		tellAll(b.led, func(k *batchKey[K, V]) { record(Load{b.f.p.label, k.asking.key, b.took, k.waits, k.to.Err}) })
+		tellAll(b.led, func(k *batchKey[K, V]) { record(Load{b.f.p.label, k.asking.key, b.took, k.got.Joiners, k.got.Err}) })
 	}
 }
 
@@ -303,23 +302,20 @@ func (b *batch[K, V]) call(ctx context.Context, keys []K, born instant) (map[K]L
 // settle settles a call that is led.
 func (b *batch[K, V]) settle(k *batchKey[K, V], n *node[K, V], err error) {
 	k.isOver = true
-	r := Result{Err: err}
 	if n != nil {
-		r.Val = n
-		k.to.Value, r.Err = n.result()
+		k.got.Val = n
+		k.to.Value, err = n.result()
 	}
-	k.to.Err = r.Err
-	b.f.p.ends(&r, &k.asking)
-	k.waits = r.Joiners
-	b.waits += r.Joiners
+	k.got.Err, k.to.Err = err, err
+	b.f.p.ends(&k.asking)
+	b.waits += k.got.Joiners
 }
 
 // join waits for a call that is not led, and asks again where its result is not for this key.
 func (b *batch[K, V]) join(ctx context.Context, k *batchKey[K, V]) {
-	var r Result
 	how := again
 	if !k.isCrowded {
-		how = b.f.p.joins(&r, &k.asking, ctx.Done())
+		how = b.f.p.joins(&k.asking, ctx.Done())
 	}
 	k.isOver = true
 	if how == left {
@@ -327,12 +323,12 @@ func (b *batch[K, V]) join(ctx context.Context, k *batchKey[K, V]) {
 		return
 	}
 	if how == settled {
-		end(r.Err)
-		n, _ := r.Val.(*node[K, V])
+		end(k.got.Err)
+		n, _ := k.got.Val.(*node[K, V])
 		isFor := n == nil || k.isFor(n, b.noted)
 		k.asking.enters(isFor)
 		if isFor {
-			k.to.Value, k.to.Err = valueOf(n), r.Err
+			k.to.Value, k.to.Err = valueOf(n), k.got.Err
 			return
 		}
 	}

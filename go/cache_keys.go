@@ -33,8 +33,10 @@ func keyKindOf[K comparable](toBytes func(K) []byte) (kind keyKind[K], err error
 	of := reflect.TypeOf((*K)(nil)).Elem()
 	switch {
 	case of.Kind() == reflect.String:
-		name := func(key K) string { return *(*string)(pointer(&key)) }
-		return keyKind[K]{func(key K) uint64 { return hash(seed, name(key)) }, name}, nil
+		return keyKind[K]{
+			func(key K) uint64 { return hash(seed, *(*string)(pointer(&key))) },
+			func(key K) string { return *(*string)(pointer(&key)) },
+		}, nil
 	case of.Kind() == reflect.Array && widthOf(of.Elem().Kind()) > 0:
 		name := func(key K) string {
 			return string(unsafe.Slice((*byte)(pointer(&key)), unsafe.Sizeof(key)))
@@ -45,12 +47,25 @@ func keyKindOf[K comparable](toBytes func(K) []byte) (kind keyKind[K], err error
 	if width == 0 {
 		return kind, fmt.Errorf("%w: keys of type %v need WithKey", ErrOption, of)
 	}
-	first, second := hash(seed, "first"), hash(seed, "second")|1
+	m := mixer{hash(seed, "first"), hash(seed, "second") | 1}
 	number := readerOf[K](width)
-	return keyKind[K]{
-		func(key K) uint64 { high, low := bits.Mul64(number(key)^first, second); return high ^ low },
+	kind = keyKind[K]{
+		func(key K) uint64 { return m.mix(number(key)) },
 		func(key K) string { return strconv.FormatUint(number(key), 10) },
-	}, nil
+	}
+	if width == 8 {
+		// Without a call of a function of its own: these keys are the usual ones.
+		kind.hash = func(key K) uint64 { return m.mix(*(*uint64)(pointer(&key))) }
+	}
+	return kind, nil
+}
+
+// A mixer hashes whole numbers.
+type mixer struct{ first, second uint64 }
+
+func (m *mixer) mix(number uint64) uint64 {
+	high, low := bits.Mul64(number^m.first, m.second)
+	return high ^ low
 }
 
 // widthOf returns how many bytes a number of this kind has, or 0 for what is no whole number.

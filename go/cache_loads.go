@@ -47,7 +47,7 @@ func (l loading[K, V]) get(ctx context.Context, noted uint64) (n *node[K, V], er
 	g.loading = l
 	for name := l.c.kind.name(l.key); ; {
 		g.asking = asking{key: name, from: l.from}
-		var r Result
+		var r *Result
 		r, err = l.f.p.doContext(ctx, &g.asking, g.runs)
 		n, _ = r.Val.(*node[K, V])
 		// A leader has its own key's, which need not equal itself: see isFindable.

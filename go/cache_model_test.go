@@ -404,7 +404,7 @@ func (m *modelCache) isApart() bool {
 	for key := 0; key < modelKeys; key++ {
 		a := asking{key: m.kind.name(key)}
 		f.p.table.ask(&a)
-		f.p.ends(new(Result), &a)
+		f.p.ends(&a)
 		slots[words{a.stamp.table, a.stamp.slot, 0}] = true
 		classes[m.room.begunOf(m.printOf(key))] = true
 	}

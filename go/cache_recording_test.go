@@ -261,7 +261,7 @@ func TestCacheRecordingFindsOldValues(t *testing.T) {
 				a := &asking{key: "a", from: now()}
 				l.asks(other, a)
 				a.record().begins()
-				other.ends(&Result{}, a)
+				other.ends(a)
 				time.Sleep(time.Millisecond)
 				return Loaded[int]{Value: 1}, nil
 			})

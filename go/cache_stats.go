@@ -8,8 +8,8 @@ import (
 
 // A tally counts the looks of a cache that found a value, and those that did not.
 type tally struct {
-	byGoroutine []looks   // each for some of the goroutines
-	byProcessor []pointer // of *hits, each nil before the processor's first hit: see isHit
+	byGoroutine []looks // each for some of the goroutines
+	byProcessor []hits
 }
 
 type looks struct {
@@ -53,7 +53,7 @@ func (t *values[K, V]) countsOf(print uint32) *counts { return t.room.countsOf(p
 
 func (t *tally) open(looksOf int) {
 	t.byGoroutine = make([]looks, looksOf)
-	t.byProcessor = make([]pointer, processors())
+	t.byProcessor = make([]hits, processors())
 }
 
 func (t *tally) looked(found bool) {
@@ -74,9 +74,7 @@ func (t *tally) count() (found, missed uint64) {
 		missed += t.byGoroutine[i].misses.Load()
 	}
 	for i := range t.byProcessor {
-		if own := (*hits)(atomic.LoadPointer(&t.byProcessor[i])); own != nil {
-			found += atomic.LoadUint64(&own.n)
-		}
+		found += atomic.LoadUint64(&t.byProcessor[i].n)
 	}
 	return found, missed
 }

@@ -753,7 +753,7 @@ func tableWith(t *testing.T, limit int64) (*values[string, int], func(key string
 		table.p.asks(&a)
 		n := nodeOf(&c.room, &known[string, int]{key: key, print: print, cost: 1})
 		_, out := table.keep(n, a.stamp.packed())
-		table.p.ends(new(Result), &a)
+		table.p.ends(&a)
 		return n, out
 	}
 }

@@ -175,14 +175,18 @@ func (n *node[K, V]) marks() uint32 { return atomic.LoadUint32(&n.flags) & flagM
 // tables ask for.
 type room struct {
 	limit  atomic.Int64
-	turn   atomic.Uint32   // which shard makes room for another next
-	weight atomic.Int64    // what is kept, and about to be; within the limit
 	begun  []atomic.Uint64 // by class: how many Forgets and Puts have begun, and where values have costs, loads
 	counts []counts
 	tags   tags
 	lives  lifetimes
 	era    extrasPointer // the latest; see eraOf
 	tells  bool          // whether there is a function of WithOnEvict
+
+	// Hits read what is above, and misses change this.
+	_      [cacheLine]byte
+	turn   atomic.Uint32 // which shard makes room for another next
+	weight atomic.Int64  // what is kept, and about to be; within the limit
+	_      [cacheLine]byte
 }
 
 // The hash of a key chooses the bucket by its lowest bits, the class by those from classBit on, and the
@@ -218,14 +222,17 @@ type values[K comparable, V any] struct {
 type valueShard[K comparable, V any] struct {
 	index   indexPointer  // the first node of each bucket
 	version atomic.Uint32 // odd while nodes move
-	mu      sync.Mutex    // protects the rest, and what is written above
-	closed  bool          // whether nothing is kept in it any more
-	nodes   int           // how many it has
-	weight  int64         // what they cost
-	queues  [2]queue[K, V]
-	ghosts  ghosts
-	passes  uint64   // how many nodes evictions have come to
-	_       [72]byte // to whole cache lines
+
+	// Hits read what is above, which seldom changes, and each miss changes this.
+	_      [cacheLine - 12]byte
+	mu     sync.Mutex // protects the rest, and what is written above
+	closed bool       // whether nothing is kept in it any more
+	nodes  int        // how many it has
+	weight int64      // what they cost
+	queues [2]queue[K, V]
+	ghosts ghosts
+	passes uint64   // how many nodes evictions have come to
+	_      [16]byte // to whole cache lines
 }
 
 func (s *valueShard[K, V]) queue(number int) *queue[K, V] { return &s.queues[number-1] }
@@ -322,14 +329,6 @@ func (t *values[K, V]) find(key K, print uint32) *node[K, V] {
 	return n
 }
 
-// isCurrent tells whether the node's value may be used: no Forget of its key, and none of its tags,
-// has returned since its load began. Of the key the library says so. A true
-// answer is counted as a hit in by, unless that is nil.
-func (t *values[K, V]) isCurrent(n *node[K, V], by *tally) bool {
-	point(beforeLook)
-	return t.room.tags.areCurrent(n.extras) && t.p.table.isHit(n.stamp(), by)
-}
-
 // A state is what a look finds of a node.
 type state uint8
 
@@ -342,11 +341,28 @@ const (
 	isDue // fresh, and to be refreshed
 )
 
-// stateOf returns the state of a node that is current, and its age by the steady clock where it has a life.
-func (t *values[K, V]) stateOf(n *node[K, V]) (is state, steady time.Duration) {
-	if !n.hasLife() {
-		return isFresh, 0
+// stateOf returns the state of a node, and its age by the steady clock where it has a life. One that is fresh is counted as a hit in
+// by, unless that is nil.
+//
+// The node's value may be used if no Forget of its key, and none of its tags, has returned since its load began. Of the key the
+// library says so.
+func (t *values[K, V]) stateOf(n *node[K, V], by *tally) (is state, steady time.Duration) {
+	is = isFresh
+	if n.hasLife() {
+		is, steady = t.stageOf(n)
 	}
+	if is < isFresh {
+		by = nil
+	}
+	point(beforeLook)
+	if !t.room.tags.areCurrent(n.extras) || !t.p.isStill(n.stamp(), by) {
+		is = isForgotten
+	}
+	return is, steady
+}
+
+// stageOf returns the state of a node that has a life and is current, and its age.
+func (t *values[K, V]) stageOf(n *node[K, V]) (is state, steady time.Duration) {
 	l := &t.room.lives
 	age, steady := n.age(l.clock())
 	switch past := n.past(age, l); {
@@ -358,6 +374,38 @@ func (t *values[K, V]) stateOf(n *node[K, V]) (is state, steady time.Duration) {
 		return isDue, steady
 	}
 	return isFresh, steady
+}
+
+// hit returns the key's node and its state. One that is fresh is found: see found. It takes out none, and does not find what moves: look
+// does. Nobody records.
+func (t *values[K, V]) hit(key K, print uint32, by *tally) (n *node[K, V], is state) {
+	n = t.shard(print).find(key, print)
+	if n == nil {
+		return nil, isNothing
+	}
+	if n.extras != nil {
+		return n, t.found(n, by)
+	}
+	// It has no life and no tags. This is what found does then, without its calls.
+	point(beforeLook)
+	if t.p.isStill(n.stamp(), by) {
+		n.mark()
+		is = isFresh
+	}
+	return n, is
+}
+
+// found returns the state of a node that a look has come to. One that is fresh is counted as a hit in by, unless that is nil, and it
+// is noted that it was found.
+func (t *values[K, V]) found(n *node[K, V], by *tally) state {
+	is, steady := t.stateOf(n, by)
+	if is >= isFresh {
+		n.mark()
+		if t.room.lives.idle > 0 {
+			n.meet(steady, &t.room.lives)
+		}
+	}
+	return is
 }
 
 // look returns the key's node if it is fresh, and whether it is due. One that cannot be used any more
@@ -375,13 +423,7 @@ func (t *values[K, V]) look(
 		// It has left since.
 		return t.look(key, print, w, by)
 	}
-	is, steady := t.stateOf(n)
-	if is < isFresh {
-		by = nil
-	}
-	if !t.isCurrent(n, by) {
-		is = isForgotten
-	}
+	is := t.found(n, by)
 	if w.by != nil && is < isFresh {
 		w.drops(n.record())
 	}
@@ -392,10 +434,6 @@ func (t *values[K, V]) look(
 		return nil, false, t.drop(n, ReasonExpired)
 	case isStale:
 		return nil, false, nil
-	}
-	n.mark()
-	if t.room.lives.idle > 0 {
-		n.meet(steady, &t.room.lives)
 	}
 	return n, is == isDue, nil
 }
@@ -409,8 +447,8 @@ func (t *values[K, V]) current(key K, print uint32) *node[K, V] {
 }
 
 func (t *values[K, V]) isAtLeast(n *node[K, V], least state) bool {
-	is, _ := t.stateOf(n)
-	return is >= least && t.isCurrent(n, nil)
+	is, _ := t.stateOf(n, nil)
+	return is >= least
 }
 
 // standIn returns the key's value that is to be returned in place of a load's error, if there is one.
@@ -439,7 +477,7 @@ func (t *values[K, V]) takeOut(key K, print uint32) *node[K, V] {
 	s := t.lock(print)
 	defer s.mu.Unlock()
 	n := s.find(key, print)
-	if n == nil || t.p.table.isStill(n.stamp()) {
+	if n == nil || t.p.isStill(n.stamp(), nil) {
 		return nil
 	}
 	t.remove(s, n, ReasonForgotten)
@@ -464,7 +502,7 @@ func (t *values[K, V]) keep(n *node[K, V], stamp Stamp) (kept bool, out []*node[
 	point(beforeKeep)
 	for try := 0; ; try++ {
 		s := t.lock(n.print)
-		if s.closed || !t.p.table.isStill(stamp) || !t.room.tags.areCurrent(n.extras) {
+		if s.closed || !t.p.isStill(stamp, nil) || !t.room.tags.areCurrent(n.extras) {
 			s.mu.Unlock()
 			return false, out
 		}

@@ -15,6 +15,8 @@ type core struct {
 	record   func(Load)
 	onPanic  func(value any, stack []byte)
 	recorder recorderPointer
+	isEnded  atomic.Bool // whether Close was called: no stamp is current any more
+	why      error       // there is no library
 	// Of recordings.
 	recording sync.Mutex
 	ledger    atomic.Pointer[ledger] // of a cache's core that is recorded
@@ -53,14 +55,14 @@ type call struct {
 	done    chan struct{} // closed when got is there; made by the first who joins
 	rec     atomic.Pointer[callRecord]
 
-	mu       sync.Mutex         // protects the rest
-	ready    bool               // whether got is there; nothing changes then
-	waits    bool               // whether a leader waits for it that may leave
-	isBehind bool               // whether no leader ever waits for it: see doBehind
-	cancel   context.CancelFunc // tells the load to end; of such a leader, also when it has left
-	ended    bool               // whether that was called, since nobody waited
-	told     []func()           // to be called when got is there
-	got      Result
+	mu      sync.Mutex         // protects the rest
+	ready   bool               // whether got is there; nothing changes then
+	isApart bool               // whether its leader may leave, or there is none that waits: see apart
+	waits   bool               // whether that waits
+	cancel  context.CancelFunc // tells the load to end; of such a leader, also when it has left
+	ended   bool               // whether that was called, since nobody waited
+	told    []func()           // to be called when got is there
+	got     Result
 }
 
 // Which call of the group: see sflight_id in sflight.h. None has the generation 0.
@@ -89,12 +91,14 @@ type asking struct {
 	asked
 	own   flight // what the table knows of it
 	call  *call  // in the library's table none of a leader, unless it has to share something
+	got   Result // of a leader, once it has called its function; of others, once the call has ended
 	leads bool
 	// Whether it does neither, since the key's call has as many holders as can be counted.
 	isCrowded bool
 	stop      <-chan struct{} // closed when it is not to wait any more until one of them leaves
 	by        *recorder       // none where it is not recorded
 	from      int64           // when it began, where it is recorded
+	took      int64           // of a leader whose load is told of: when that began, and then how long it took
 	held      *callRecord     // of a cache's joiner: that of the value which it got
 	over      chan struct{}   // of a leader that waits for a run in another goroutine; closed when that has ended
 	after     func()          // to be called when all have the result
@@ -120,7 +124,23 @@ const (
 // asks begins an asking: it leads the key's new call, or has joined its open one. Where that is crowded, it waits until it is
 // not, or until the caller's end.
 func (p *core) asks(a *asking) {
-	for p.asksOnce(a); a.isCrowded && nap(a.stop); p.asksOnce(a) {
+	for {
+		by := p.recorder.Load()
+		if a.by = by; by != nil && by.isOfCache {
+			p.ledger.Load().asks(p, a)
+		} else {
+			a.from = by.now()
+			point(beforeAsk)
+			p.table.ask(a)
+			point(afterAsk)
+			if by != nil && a.leads {
+				p.table.share(a)
+				a.call.rec.Store(by.record(a.key, a.from))
+			}
+		}
+		if !a.isCrowded || !nap(a.stop) {
+			return
+		}
 	}
 }
 
@@ -143,22 +163,6 @@ func nap(stop <-chan struct{}) bool {
 	}
 }
 
-func (p *core) asksOnce(a *asking) {
-	a.by = p.recorder.Load()
-	if a.by != nil && a.by.isOfCache {
-		p.ledger.Load().asks(p, a)
-		return
-	}
-	a.from = a.by.now()
-	point(beforeAsk)
-	p.table.ask(a)
-	point(afterAsk)
-	if a.by != nil && a.leads {
-		p.table.share(a)
-		a.call.rec.Store(a.by.record(a.key, a.from))
-	}
-}
-
 // record returns the record of the call that is led, if that is recorded.
 func (a *asking) record() *callRecord {
 	if a.by == nil {
@@ -168,8 +172,8 @@ func (a *asking) record() *callRecord {
 }
 
 // ends settles the call that was led, tells those who have joined, and completes the result.
-func (p *core) ends(r *Result, a *asking) {
-	rec := a.record()
+func (p *core) ends(a *asking) {
+	r, rec := &a.got, a.record()
 	if rec != nil && rec.value != nil {
 		rec.loaded(r.Err)
 	} else if rec != nil {
@@ -178,7 +182,7 @@ func (p *core) ends(r *Result, a *asking) {
 	point(beforeSettle)
 	to := p.table.settle(a, rec != nil || a.over != nil)
 	r.Joiners, r.Shared, r.Stamp = to.joiners, to.isShared, a.stamp.packed()
-	if to.forgotten {
+	if to.forgotten || p.isEnded.Load() {
 		r.Stamp = Stamp{}
 	}
 	r.Call = Call{id: a.id, stamp: r.Stamp}
@@ -194,15 +198,15 @@ func (p *core) ends(r *Result, a *asking) {
 		}
 	}
 	point(beforeWake)
-	p.tell(r, a)
+	p.tell(a)
 }
 
 // tell gives the result to those who have joined, and wakes them.
-func (p *core) tell(r *Result, a *asking) {
+func (p *core) tell(a *asking) {
 	c := a.call
 	acquire(&c.mu)
-	c.got, c.ready = *r, true
-	isLost := (c.cancel != nil || c.isBehind) && !c.waits && c.holders.Load() == 1
+	c.got, c.ready = a.got, true
+	isLost := c.isApart && !c.waits && c.holders.Load() == 1
 	done, told := c.done, c.told
 	c.told = nil
 	c.mu.Unlock()
@@ -214,7 +218,7 @@ func (p *core) tell(r *Result, a *asking) {
 	}
 	p.leaves(a, true)
 	if isLost {
-		p.lost(r.Err)
+		p.lost(a.got.Err)
 	}
 }
 
@@ -231,22 +235,22 @@ func (p *core) leaves(a *asking, hasEnded bool) {
 }
 
 // joins waits for the call that was joined, or until stop is closed.
-func (p *core) joins(r *Result, a *asking, stop <-chan struct{}) outcome {
+func (p *core) joins(a *asking, stop <-chan struct{}) outcome {
 	c := a.call
 	point(beforeSleep)
 	if !await(c.done, stop) && p.gives(a) {
 		return left
 	}
 	await(c.done, nil)
-	return p.takes(r, a)
+	return p.takes(a)
 }
 
 // takes takes the result of a call that has ended.
-func (p *core) takes(r *Result, a *asking) outcome {
+func (p *core) takes(a *asking) outcome {
 	c := a.call
 	how := again
 	if err := c.got.Err; err != errAgain && (err == nil || !c.ended) {
-		*r, how = c.got, settled
+		a.got, how = c.got, settled
 		a.holds()
 	}
 	a.enter()
@@ -316,12 +320,24 @@ func (p *core) forgetsCall(key string, c Call) Hit {
 	by := p.recorder.Load()
 	from := by.now()
 	point(beforeForget)
-	hit := p.table.forgetCall(key, c)
+	hit := p.table.forgetCall(key, c, p.isEnded.Load())
 	point(afterForget)
 	if r := p.recorder.Load(); r != nil && hit == Closed {
 		r.forgot(forgetting{by, from, true}, key, c.id, true)
 	}
 	return hit
+}
+
+// isStill tells whether the stamp is current. It counts a true answer as a hit in by, unless that is nil.
+func (p *core) isStill(stamp Stamp, by *tally) bool {
+	return !p.isEnded.Load() && p.table.isStill(stamp, by)
+}
+
+func (p *core) err() error {
+	if p.isEnded.Load() {
+		return ErrClosed
+	}
+	return p.why
 }
 
 // A lazyCore is made when it is first asked for, if it was not before.
@@ -331,8 +347,8 @@ type lazyCore struct {
 }
 
 func (l *lazyCore) core() *core {
-	if p := l.Load(); p != nil {
-		return p
+	if p := atomic.LoadPointer(&l.at); p != nil {
+		return (*core)(p)
 	}
 	return l.make()
 }

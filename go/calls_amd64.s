@@ -56,58 +56,60 @@ TEXT ·cFree(SB), NOSPLIT, $0-20
 	MOVL AX, ret+16(FP)
 	RET
 
-// func cAsk(h *handle, c *cCall, key pointer, n uintptr, tries uint32, out *cAsked) uint32
-TEXT ·cAsk(SB), NOSPLIT, $0-52
+// func cAsk(h *handle, a *asking) uint32
+TEXT ·cAsk(SB), NOSPLIT, $0-20
 	MOVQ h+0(FP), DI
-	MOVQ c+8(FP), SI
-	MOVQ key+16(FP), DX
-	MOVQ n+24(FP), CX
-	MOVL tries+32(FP), R8
-	MOVQ out+40(FP), R9
+	MOVQ a+8(FP), R9
+	LEAQ asking_own(R9), SI
+	MOVQ asking_key(R9), DX
+	MOVQ (asking_key+8)(R9), CX
+	MOVL $const_tries, R8
+	ADDQ $asking_asked, R9
 	CALLC(sfgo_ask)
-	MOVL AX, ret+48(FP)
+	MOVL AX, ret+16(FP)
 	RET
 
-// func cSettle(h *handle, c *cCall, value uint64, told *cAudience) uint32
-TEXT ·cSettle(SB), NOSPLIT, $0-36
+// func cSettle(h *handle, a *asking) uint32
+TEXT ·cSettle(SB), NOSPLIT, $0-20
 	MOVQ h+0(FP), DI
-	MOVQ c+8(FP), SI
-	MOVQ value+16(FP), DX
-	MOVQ told+24(FP), CX
+	MOVQ a+8(FP), SI
+	ADDQ $asking_own, SI
+	XORL DX, DX
+	LEAQ handle_told(DI), CX
 	CALLC(sfgo_settle)
-	MOVL AX, ret+32(FP)
+	MOVL AX, ret+16(FP)
 	RET
 
-// func cLeave(h *handle, c *cCall, value *uint64) uint32
-TEXT ·cLeave(SB), NOSPLIT, $0-28
+// func cLeave(h *handle, c *cCall) uint32
+TEXT ·cLeave(SB), NOSPLIT, $0-20
 	MOVQ h+0(FP), DI
 	MOVQ c+8(FP), SI
-	MOVQ value+16(FP), DX
+	LEAQ handle_value(DI), DX
 	CALLC(sfgo_leave)
+	MOVL AX, ret+16(FP)
+	RET
+
+// func cForget(h *handle, key string) uint32
+TEXT ·cForget(SB), NOSPLIT, $0-28
+	MOVQ h+0(FP), DI
+	MOVQ key_base+8(FP), SI
+	MOVQ key_len+16(FP), DX
+	MOVL $const_tries, CX
+	LEAQ handle_id(DI), R8
+	CALLC(sfgo_forget)
 	MOVL AX, ret+24(FP)
 	RET
 
-// func cForget(h *handle, key pointer, n uintptr, tries uint32, id *callID) uint32
-TEXT ·cForget(SB), NOSPLIT, $0-44
+// func cForgetCall(h *handle, key string, id *callID, stamp *words) uint32
+TEXT ·cForgetCall(SB), NOSPLIT, $0-44
 	MOVQ h+0(FP), DI
-	MOVQ key+8(FP), SI
-	MOVQ n+16(FP), DX
-	MOVL tries+24(FP), CX
-	MOVQ id+32(FP), R8
-	CALLC(sfgo_forget)
-	MOVL AX, ret+40(FP)
-	RET
-
-// func cForgetCall(h *handle, key pointer, n uintptr, id *callID, stamp *words, tries uint32) uint32
-TEXT ·cForgetCall(SB), NOSPLIT, $0-52
-	MOVQ h+0(FP), DI
-	MOVQ key+8(FP), SI
-	MOVQ n+16(FP), DX
+	MOVQ key_base+8(FP), SI
+	MOVQ key_len+16(FP), DX
 	MOVQ id+24(FP), CX
 	MOVQ stamp+32(FP), R8
-	MOVL tries+40(FP), R9
+	MOVL $const_tries, R9
 	CALLC(sfgo_forget_call)
-	MOVL AX, ret+48(FP)
+	MOVL AX, ret+40(FP)
 	RET
 
 // func cIsStill(h *handle, stamp *words) bool

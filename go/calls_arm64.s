@@ -55,58 +55,60 @@ TEXT ·cFree(SB), NOSPLIT, $0-20
 	MOVW R0, ret+16(FP)
 	RET
 
-// func cAsk(h *handle, c *cCall, key pointer, n uintptr, tries uint32, out *cAsked) uint32
-TEXT ·cAsk(SB), NOSPLIT, $0-52
+// func cAsk(h *handle, a *asking) uint32
+TEXT ·cAsk(SB), NOSPLIT, $0-20
 	MOVD h+0(FP), R0
-	MOVD c+8(FP), R1
-	MOVD key+16(FP), R2
-	MOVD n+24(FP), R3
-	MOVWU tries+32(FP), R4
-	MOVD out+40(FP), R5
+	MOVD a+8(FP), R5
+	ADD  $asking_own, R5, R1
+	MOVD asking_key(R5), R2
+	MOVD (asking_key+8)(R5), R3
+	MOVD $const_tries, R4
+	ADD  $asking_asked, R5
 	CALLC(sfgo_ask)
-	MOVW R0, ret+48(FP)
+	MOVW R0, ret+16(FP)
 	RET
 
-// func cSettle(h *handle, c *cCall, value uint64, told *cAudience) uint32
-TEXT ·cSettle(SB), NOSPLIT, $0-36
+// func cSettle(h *handle, a *asking) uint32
+TEXT ·cSettle(SB), NOSPLIT, $0-20
 	MOVD h+0(FP), R0
-	MOVD c+8(FP), R1
-	MOVD value+16(FP), R2
-	MOVD told+24(FP), R3
+	MOVD a+8(FP), R1
+	ADD  $asking_own, R1
+	MOVD ZR, R2
+	ADD  $handle_told, R0, R3
 	CALLC(sfgo_settle)
-	MOVW R0, ret+32(FP)
+	MOVW R0, ret+16(FP)
 	RET
 
-// func cLeave(h *handle, c *cCall, value *uint64) uint32
-TEXT ·cLeave(SB), NOSPLIT, $0-28
+// func cLeave(h *handle, c *cCall) uint32
+TEXT ·cLeave(SB), NOSPLIT, $0-20
 	MOVD h+0(FP), R0
 	MOVD c+8(FP), R1
-	MOVD value+16(FP), R2
+	ADD  $handle_value, R0, R2
 	CALLC(sfgo_leave)
+	MOVW R0, ret+16(FP)
+	RET
+
+// func cForget(h *handle, key string) uint32
+TEXT ·cForget(SB), NOSPLIT, $0-28
+	MOVD h+0(FP), R0
+	MOVD key_base+8(FP), R1
+	MOVD key_len+16(FP), R2
+	MOVD $const_tries, R3
+	ADD  $handle_id, R0, R4
+	CALLC(sfgo_forget)
 	MOVW R0, ret+24(FP)
 	RET
 
-// func cForget(h *handle, key pointer, n uintptr, tries uint32, id *callID) uint32
-TEXT ·cForget(SB), NOSPLIT, $0-44
+// func cForgetCall(h *handle, key string, id *callID, stamp *words) uint32
+TEXT ·cForgetCall(SB), NOSPLIT, $0-44
 	MOVD h+0(FP), R0
-	MOVD key+8(FP), R1
-	MOVD n+16(FP), R2
-	MOVWU tries+24(FP), R3
-	MOVD id+32(FP), R4
-	CALLC(sfgo_forget)
-	MOVW R0, ret+40(FP)
-	RET
-
-// func cForgetCall(h *handle, key pointer, n uintptr, id *callID, stamp *words, tries uint32) uint32
-TEXT ·cForgetCall(SB), NOSPLIT, $0-52
-	MOVD h+0(FP), R0
-	MOVD key+8(FP), R1
-	MOVD n+16(FP), R2
+	MOVD key_base+8(FP), R1
+	MOVD key_len+16(FP), R2
 	MOVD id+24(FP), R3
 	MOVD stamp+32(FP), R4
-	MOVWU tries+40(FP), R5
+	MOVD $const_tries, R5
 	CALLC(sfgo_forget_call)
-	MOVW R0, ret+48(FP)
+	MOVW R0, ret+40(FP)
 	RET
 
 // func cIsStill(h *handle, stamp *words) bool

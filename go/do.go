@@ -8,21 +8,15 @@ import (
 	"time"
 )
 
-// do is Do for a caller whose context never ends. Results and askings are passed by their address: their copies waited
-// for stores that they could not be forwarded from.
-func (p *core) do(r *Result, key string, fn func() (any, error)) {
-	a := asking{key: key}
-	for {
-		p.asks(&a)
-		if a.leads {
-			p.lead(r, &a, fn)
-			return
-		}
-		if p.joins(r, &a, nil) == settled {
-			end(r.Err)
+// do is Do for a caller whose context never ends.
+func (p *core) do(a *asking, fn func() (any, error)) {
+	for p.asks(a); !a.leads; p.asks(a) {
+		if p.joins(a, nil) == settled {
+			end(a.got.Err)
 			return
 		}
 	}
+	p.lead(a, fn)
 }
 
 // end goes on in one who has joined a function that panicked or ended its goroutine: so does this one.
@@ -42,29 +36,29 @@ func goOnPanic(err error) {
 
 // lead calls fn, and settles the call that was led, also where fn panics or ends its goroutine. A panic goes on in this
 // goroutine, and where the leader waits in another, in that.
-func (p *core) lead(r *Result, a *asking, fn func() (any, error)) {
-	begun, returned := int64(0), false
+func (p *core) lead(a *asking, fn func() (any, error)) {
+	returned := false
 	if p.record != nil {
-		begun = now()
+		a.took = now()
 	}
 	if rec := a.record(); rec != nil && rec.value == nil {
 		rec.begins()
 	}
 	defer func() {
 		if !returned {
-			r.Err = errGoexit
+			a.got.Err = errGoexit
 		}
 		if p.record != nil {
-			begun = now() - begun
+			a.took = now() - a.took
 		}
-		p.ends(r, a)
+		p.ends(a)
 		if p.record != nil || a.after != nil || a.over != nil {
-			p.led(r, a, time.Duration(begun))
+			p.led(a)
 		} else {
-			goOnPanic(r.Err)
+			goOnPanic(a.got.Err)
 		}
 	}()
-	calls(r, fn)
+	calls(&a.got, fn)
 	returned = true
 }
 
@@ -83,7 +77,7 @@ func calls(r *Result, fn func() (any, error)) {
 }
 
 // led tells whoever else is to be told of a load that has ended, after those who have joined.
-func (p *core) led(r *Result, a *asking, took time.Duration) {
+func (p *core) led(a *asking) {
 	if a.after != nil {
 		// Also where it goes on to panic.
 		defer a.after()
@@ -91,13 +85,13 @@ func (p *core) led(r *Result, a *asking, took time.Duration) {
 	// Also where the recorder panics or ends the goroutine.
 	defer func() {
 		if a.over == nil {
-			goOnPanic(r.Err)
+			goOnPanic(a.got.Err)
 		} else {
 			close(a.over)
 		}
 	}()
 	if p.record != nil {
-		p.record(Load{p.label, a.key, took, r.Joiners, r.Err})
+		p.record(Load{p.label, a.key, time.Duration(a.took), a.got.Joiners, a.got.Err})
 	}
 }
 
@@ -122,10 +116,13 @@ func (detached) Err() error                  { return nil }
 
 type loadFunc = func(context.Context, *asking) (any, error)
 
+// What is returned in place of a result: nobody changes it.
+var noResult Result
+
 // doContext is Do for a caller that waits no longer than its context. If the context never ends, nobody has the asking when it returns.
-func (p *core) doContext(ctx context.Context, a *asking, fn loadFunc) (Result, error) {
+func (p *core) doContext(ctx context.Context, a *asking, fn loadFunc) (*Result, error) {
 	if err := ctx.Err(); err != nil {
-		return Result{}, err
+		return &noResult, err
 	}
 	a.stop = ctx.Done()
 	p.asks(a)
@@ -133,49 +130,52 @@ func (p *core) doContext(ctx context.Context, a *asking, fn loadFunc) (Result, e
 }
 
 // goOn goes on with an asking until there is a result, or the context ends.
-func (p *core) goOn(ctx context.Context, a *asking, fn loadFunc) (r Result, err error) {
+func (p *core) goOn(ctx context.Context, a *asking, fn loadFunc) (*Result, error) {
 	for !a.leads {
-		if a.isCrowded {
-			return r, ctx.Err()
+		how := left
+		if !a.isCrowded {
+			how = p.joins(a, ctx.Done())
 		}
-		switch p.joins(&r, a, ctx.Done()) {
-		case settled:
-			end(r.Err)
-			return r, r.Err
-		case left:
-			return r, ctx.Err()
+		if how == settled {
+			end(a.got.Err)
+			return &a.got, a.got.Err
 		}
-		if err := ctx.Err(); err != nil {
-			return r, err
+		if err := ctx.Err(); err != nil || how == left {
+			return &noResult, err
 		}
 		p.asks(a)
 	}
 	if ctx.Done() != nil {
 		return p.leadContext(ctx, a, fn)
 	}
-	p.lead(&r, a, func() (any, error) { return fn(ctx, a) })
-	return r, r.Err
+	p.lead(a, func() (any, error) { return fn(ctx, a) })
+	return &a.got, a.got.Err
 }
 
 // leadContext runs fn in a goroutine of its own, and waits for it no longer than the context.
-func (p *core) leadContext(ctx context.Context, a *asking, fn loadFunc) (Result, error) {
+func (p *core) leadContext(ctx context.Context, a *asking, fn loadFunc) (*Result, error) {
 	own, cancel := context.WithCancel(detached{ctx})
+	p.apart(a, cancel)
+	spawn(func() {
+		defer cancel()
+		p.lead(a, func() (any, error) { return fn(own, a) })
+	})
+	if !await(a.over, ctx.Done()) && p.gives(a) {
+		return &noResult, ctx.Err()
+	}
+	await(a.over, nil)
+	end(a.got.Err)
+	return &a.got, a.got.Err
+}
+
+// apart has a call that is led run apart from its leader, who may leave; or for nobody, where there is no cancel.
+func (p *core) apart(a *asking, cancel context.CancelFunc) {
 	a.over = make(chan struct{})
 	p.table.share(a)
 	c := a.call
 	acquire(&c.mu)
-	c.waits, c.cancel = true, cancel
+	c.isApart, c.waits, c.cancel = true, cancel != nil, cancel
 	c.mu.Unlock()
-	spawn(func() {
-		defer cancel()
-		p.lead(new(Result), a, func() (any, error) { return fn(own, a) })
-	})
-	if !await(a.over, ctx.Done()) && p.gives(a) {
-		return Result{}, ctx.Err()
-	}
-	await(a.over, nil)
-	end(c.got.Err)
-	return c.got, c.got.Err
 }
 
 // doBehind is Do for nobody: it runs fn in this goroutine, unless the key has an open call. A panic of fn is told as one that
@@ -186,12 +186,8 @@ func (p *core) doBehind(ctx context.Context, key string, fn loadFunc) (joined bo
 	if !a.leads {
 		return p.parts(a)
 	}
-	a.over = make(chan struct{})
-	p.table.share(a)
-	acquire(&a.call.mu)
-	a.call.isBehind = true
-	a.call.mu.Unlock()
-	p.lead(new(Result), a, func() (any, error) { return fn(ctx, a) })
+	p.apart(a, nil)
+	p.lead(a, func() (any, error) { return fn(ctx, a) })
 	return false
 }
 
@@ -201,7 +197,7 @@ func (p *core) parts(a *asking) bool {
 		return false
 	}
 	if !p.gives(a) {
-		p.takes(new(Result), a)
+		p.takes(a)
 		a.enters(false)
 	}
 	return true
@@ -212,25 +208,21 @@ func (p *core) parts(a *asking) bool {
 func (p *core) doChan(ctx context.Context, key string, fn loadFunc, tell func(*Result, error)) {
 	a := &asking{key: key, stop: ctx.Done()}
 	p.asks(a)
-	goOn := func() {
-		r, err := p.goOn(ctx, a, fn)
-		tell(&r, err)
-	}
+	goOn := func() { tell(p.goOn(ctx, a, fn)) }
 	if a.leads || ctx.Done() != nil {
 		spawn(goOn)
 		return
 	}
 	a.call.whenTold(func() {
-		var r Result
-		if p.takes(&r, a) == again {
+		if p.takes(a) == again {
 			spawn(func() {
 				p.asks(a)
 				goOn()
 			})
-		} else if e, ok := r.Err.(*panicError); ok {
+		} else if e, ok := a.got.Err.(*panicError); ok {
 			go panic(e)
-		} else if r.Err != errGoexit {
-			tell(&r, r.Err)
+		} else if a.got.Err != errGoexit {
+			tell(&a.got, a.got.Err)
 		}
 	})
 }

@@ -25,9 +25,9 @@ func NewGroup(options ...Option) (*Group, error) {
 // function of that call returned. If fn panics or calls runtime.Goexit, so do all callers that
 // joined. As in x/sync, shared tells whether another caller joined the call.
 func (g *Group) Do(key string, fn func() (any, error)) (v any, err error, shared bool) {
-	var r Result
-	g.made.core().do(&r, key, fn)
-	return r.Val, r.Err, r.Shared
+	a := asking{key: key}
+	g.made.core().do(&a, fn)
+	return a.got.Val, a.got.Err, a.got.Shared
 }
 
 // DoChan is like Do but returns a channel that receives the result. The channel is not closed. The

@@ -47,7 +47,7 @@ func apart[V any](c *Cache[string, V], count int) (keys []string) {
 	for i := 0; len(keys) < count; i++ {
 		a := asking{key: keyNumber(i)}
 		p.table.ask(&a)
-		p.ends(new(Result), &a)
+		p.ends(&a)
 		if slot := (words{a.stamp.table, a.stamp.slot, 0}); !taken[slot] {
 			taken[slot] = true
 			keys = append(keys, a.key)

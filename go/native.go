@@ -59,8 +59,6 @@ type cAudience struct {
 
 type cSize struct{ tables, passed, cells uint64 }
 
-type cAsked = asked
-
 // A handle is the library's handle, with what is near it. One goroutine has it at a time, for one call of the library: not
 // while a load runs, and not while one sleeps.
 //
@@ -78,6 +76,7 @@ type handle struct {
 	told                        cAudience
 	value                       uint64
 	stack                       *[stackSize]byte
+	put                         func() // gives it back that take has taken: of a processor's, procUnpin
 }
 
 const mostProcessors = 256
@@ -92,20 +91,18 @@ type flight = cCall
 
 // A nativeTable has the handles of a group, and the calls that are shared.
 type nativeTable struct {
-	plain   *plainTable // where there is no library
-	hot     []pointer   // handles, by processor
-	root    *handle
-	grower  *handle // which whoever grows has; made by the first who does
-	size    atomic.Uint64
-	isEnded atomic.Bool
-	_       [cacheLine]byte // each call reads what is above, and not all read what is below
+	plain  *plainTable // where there is no library
+	hot    []pointer   // handles, by processor
+	root   *handle
+	grower *handle // which whoever grows has; made by the first who does
+	size   atomic.Uint64
+	_      [cacheLine]byte // each call reads what is above, and not all read what is below
 
 	sharing [sharingParts]sharing
 	growing sync.Mutex
-	calling sync.Mutex // of ForgetCalls
-	mu      sync.Mutex // protects the root, and the list of handles
+	calling sync.Mutex  // of ForgetCalls
+	mu      *sync.Mutex // protects the root, and the list of handles; apart, since the root refers to it
 	*handles
-	why error // there is no library
 }
 
 // The handles of a group, which ends with them when the collector has found that nobody can call it. They are no part of the table: that
@@ -137,23 +134,26 @@ func (s *sizes) cells() uint64 {
 	return n
 }
 
-func (t *nativeTable) open(size *sizes) {
-	t.root = newHandle()
+// open makes the group. It returns why there is no library, if plain Go takes its place.
+func (t *nativeTable) open(size *sizes) (why error) {
+	t.root, t.mu = newHandle(), new(sync.Mutex)
+	t.root.put = t.mu.Unlock
 	t.handles = &handles{[]*handle{t.root}}
 	runtime.SetFinalizer(t.handles, (*handles).close)
 	switch {
 	case isOld:
-		t.why = ErrProcessor
+		why = ErrProcessor
 	case size.refused != nil && size.refused(),
 		cOpen(t.root, size.cells(), random(), random()) != codeDone:
-		t.why = ErrMemory
+		why = ErrMemory
 	default:
 		t.hot = make([]pointer, processors())
 		t.measure(t.root)
-		return
+		return nil
 	}
 	t.plain = new(plainTable)
 	t.plain.open(size)
+	return why
 }
 
 // close gives the memory of the group back.
@@ -188,7 +188,7 @@ func procPin() int
 //go:linkname procUnpin runtime.procUnpin
 func procUnpin()
 
-// take takes a handle, until put.
+// take takes a handle, until its put is called.
 func (t *nativeTable) take() *handle {
 	if p := procPin(); p < len(t.hot) {
 		if h := (*handle)(atomic.LoadPointer(&t.hot[p])); h != nil {
@@ -202,7 +202,7 @@ func (t *nativeTable) take() *handle {
 // takeSlowly takes a new handle for this processor, or the root.
 func (t *nativeTable) takeSlowly() *handle {
 	t.mu.Lock()
-	h := &handle{stack: t.root.stack}
+	h := &handle{stack: t.root.stack, put: procUnpin}
 	if isRaceDetected || cSplit(t.root, h) != codeDone {
 		return t.root
 	}
@@ -217,15 +217,6 @@ func (t *nativeTable) takeSlowly() *handle {
 	// There are more processors than there were; or the goroutine has come to another.
 	cClose(h)
 	return t.root
-}
-
-// put gives the handle back.
-func (t *nativeTable) put(h *handle) {
-	if h != t.root {
-		procUnpin()
-		return
-	}
-	t.mu.Unlock()
 }
 
 // increment adds one. One goroutine at a time does, and others read meanwhile: one that reads the later of two numbers, and then the
@@ -272,15 +263,11 @@ func (h *handle) idle(c *cCall) {
 	*c = cCall{}
 }
 
-// Where the string's bytes are.
-func bytesOf(key string) pointer { return *(*pointer)(pointer(&key)) }
-
 func (t *nativeTable) ask(a *asking) {
 	if t.plain != nil {
 		t.plain.ask(a)
 		return
 	}
-	a.isCrowded = false
 	for try := 1; ; try++ {
 		h := t.take()
 		seen, code, isDue := t.size.Load(), uint32(codeFull), false
@@ -291,22 +278,21 @@ func (t *nativeTable) ask(a *asking) {
 			isDue = h.make(&a.own)
 		}
 		if a.own.live {
-			code = cAsk(h, &a.own, bytesOf(a.key), uintptr(len(a.key)), tries, &a.asked)
+			code = cAsk(h, a)
 		}
-		switch a.leads = code == codeLed; code {
+		switch code {
 		case codeLed:
 			increment(&h.loads)
-			if t.isEnded.Load() {
-				a.stamp = Stamp{}.words()
-			}
 		case codeJoined:
 			increment(&h.joins)
 		default:
 			h.idle(&a.own)
 		}
-		t.put(h)
-		if code == codeLed || code == codeJoined {
-			if code == codeJoined {
+		h.put()
+		a.leads, a.isCrowded = code == codeLed, code == codeCrowded
+		switch {
+		case code == codeLed, code == codeJoined:
+			if !a.leads {
 				t.share(a)
 				a.call.holders.Add(1)
 			}
@@ -315,30 +301,19 @@ func (t *nativeTable) ask(a *asking) {
 				t.look()
 			}
 			return
-		}
-		if t.hasAsked(a, code, seen, try) {
+		case a.isCrowded:
 			return
+		case code == codeFull && !t.grow(seen):
+			// There is no memory. It loads alone, and nobody can join it.
+			a.leads, a.asked = true, asked{stamp: Stamp{}.words()}
+			return
+		case try > mostYields:
+			// Another makes room.
+			time.Sleep(time.Millisecond)
+		default:
+			runtime.Gosched()
 		}
 	}
-}
-
-// hasAsked tells whether an asking is over that has neither led nor joined by so many tries. If not, it waits until it is to try again.
-func (t *nativeTable) hasAsked(a *asking, code uint32, seen uint64, try int) bool {
-	switch {
-	case code == codeFull && !t.grow(seen):
-		// There is no memory. It loads alone, and nobody can join it.
-		a.leads, a.asked = true, asked{stamp: Stamp{}.words()}
-		return true
-	case code == codeCrowded:
-		a.isCrowded = true
-		return true
-	case try > mostYields:
-		// Another makes room.
-		time.Sleep(time.Millisecond)
-	default:
-		runtime.Gosched()
-	}
-	return false
 }
 
 // look lets the group grow when half of the cells of the last table are in use, or about so many, so that nobody finds it full.
@@ -393,28 +368,22 @@ func (t *nativeTable) share(a *asking) {
 	if t.plain != nil || a.call != nil {
 		return
 	}
-	if !a.own.live {
-		// It loads alone.
-		a.call = newCall()
-		return
-	}
 	s := t.sharingOf(a.id)
 	s.mu.Lock()
 	defer s.mu.Unlock()
 	if a.call = s.calls[a.id]; a.call != nil {
 		return
 	}
+	a.call = &call{done: make(chan struct{})}
+	a.call.holders.Store(1)
+	if !a.own.live {
+		// It loads alone.
+		return
+	}
 	if s.calls == nil {
 		s.calls = map[callID]*call{}
 	}
-	a.call = newCall()
 	s.calls[a.id] = a.call
-}
-
-func newCall() *call {
-	c := &call{done: make(chan struct{})}
-	c.holders.Store(1)
-	return c
 }
 
 // drop is share's end, where nobody holds the call any more.
@@ -435,19 +404,21 @@ func (t *nativeTable) settle(a *asking, keeps bool) (to audience) {
 		return to
 	}
 	h := t.take()
-	code := cSettle(h, &a.own, 0, &h.told)
+	code := cSettle(h, a)
 	increment(&h.ends)
 	if code == codeTold {
 		to = audience{h.told.joined || keeps, h.told.joined, int(h.told.holders) - 1, h.told.forgotten}
+		h.put()
 		if to.isTold {
-			t.put(h)
 			t.share(a)
-			return to
+		} else {
+			// A Forget has closed it, and nobody has joined it.
+			t.leave(a, true)
 		}
-		cLeave(h, &a.own, &h.value)
+		return to
 	}
 	h.idle(&a.own)
-	t.put(h)
+	h.put()
 	if a.call != nil {
 		t.drop(a)
 	}
@@ -463,40 +434,39 @@ func (t *nativeTable) leave(a *asking, hasEnded bool) (last bool) {
 		return true
 	}
 	h := t.take()
-	last = cLeave(h, &a.own, &h.value) == codeLast
+	last = cLeave(h, &a.own) == codeLast
 	h.idle(&a.own)
-	t.put(h)
+	h.put()
 	if last && a.call != nil {
 		t.drop(a)
 	}
 	return last
 }
 
+// forget closes the key's open call, which it names, if it has one, and ends the stamps of those before.
 func (t *nativeTable) forget(key string) (id callID, closed bool) {
 	if t.plain != nil {
 		return t.plain.forget(key)
 	}
 	for {
 		h := t.take()
-		code := cForget(h, bytesOf(key), uintptr(len(key)), tries, &h.id)
-		if code != codeBusy {
+		code := cForget(h, key)
+		if id = h.id; code != codeBusy {
 			increment(&h.forgets)
-			if closed = code == codeDone; closed {
-				id = h.id
-			}
-			t.put(h)
-			return id, closed
 		}
-		t.put(h)
+		h.put()
+		if code != codeBusy {
+			return id, code == codeDone
+		}
 		runtime.Gosched()
 	}
 }
 
 // forgetCall asks first whether the result is current, so that of two who throw it away one has done so. Their lock is taken
 // for that alone.
-func (t *nativeTable) forgetCall(key string, it Call) Hit {
+func (t *nativeTable) forgetCall(key string, it Call, isEnded bool) Hit {
 	if t.plain != nil {
-		return t.plain.forgetCall(key, it)
+		return t.plain.forgetCall(key, it, isEnded)
 	}
 	if it.stamp.Place == 0 {
 		// A Forget has closed it.
@@ -507,8 +477,8 @@ func (t *nativeTable) forgetCall(key string, it Call) Hit {
 	defer t.calling.Unlock()
 	for {
 		h := t.take()
-		isStill := !t.isEnded.Load() && cIsStill(h, &stamp)
-		code := cForgetCall(h, bytesOf(key), uintptr(len(key)), &it.id, &stamp, tries)
+		isStill := !isEnded && cIsStill(h, &stamp)
+		code := cForgetCall(h, key, &it.id, &stamp)
 		hit := Missed
 		if code == codeDone {
 			hit = Closed
@@ -518,7 +488,7 @@ func (t *nativeTable) forgetCall(key string, it Call) Hit {
 		if hit != Missed {
 			increment(&h.forgets)
 		}
-		t.put(h)
+		h.put()
 		if code != codeBusy {
 			return hit
 		}
@@ -526,61 +496,33 @@ func (t *nativeTable) forgetCall(key string, it Call) Hit {
 	}
 }
 
-func (t *nativeTable) isStill(stamp Stamp) (is bool) {
-	if t.plain != nil {
-		return t.plain.isStill(stamp)
-	}
-	if t.isEnded.Load() || stamp.Place>>56 == 0 {
-		return false
-	}
+// isStill tells whether the stamp is current. It counts a true answer in by, unless that is nil, while it has the handle: the count of
+// a processor needs no locked instruction then.
+func (t *nativeTable) isStill(stamp Stamp, by *tally) (is bool) {
 	words := stamp.words()
-	h := t.take()
-	is = cIsStill(h, &words)
-	t.put(h)
-	return is
-}
-
-// isHit returns what isStill does, and counts a true answer in by, unless that is nil. It counts while it has the processor's handle, so
-// it needs no locked instruction for that.
-func (t *nativeTable) isHit(stamp Stamp, by *tally) (is bool) {
-	if t.plain != nil {
-		return t.plain.isHit(stamp, by)
-	}
-	if by == nil {
-		return t.isStill(stamp)
-	}
-	isFirst := false
-	if !t.isEnded.Load() && stamp.Place>>56 != 0 {
-		words := stamp.words()
-		if p := procPin(); p < len(t.hot) && p < len(by.byProcessor) {
-			h, own := (*handle)(atomic.LoadPointer(&t.hot[p])), (*hits)(atomic.LoadPointer(&by.byProcessor[p]))
-			if h != nil && own != nil {
-				if is = cIsStill(h, &words); is {
-					increment(&own.n)
+	if p := procPin(); p < len(t.hot) {
+		if h := (*handle)(atomic.LoadPointer(&t.hot[p])); h != nil {
+			if is = cIsStill(h, &words); is && by != nil {
+				if p < len(by.byProcessor) {
+					increment(&by.byProcessor[p].n)
+				} else {
+					by.looked(true)
 				}
-				procUnpin()
-				return is
 			}
-			isFirst = own == nil
+			procUnpin()
+			return is
 		}
-		procUnpin()
-	}
-	if is = t.isStill(stamp); is {
-		by.looked(true)
-	}
-	if isFirst {
-		by.addProcessor()
-	}
-	return is
-}
-
-// addProcessor gives this processor a count of its own, if it has none.
-func (t *tally) addProcessor() {
-	own := pointer(new(hits))
-	if p := procPin(); p < len(t.byProcessor) && t.byProcessor[p] == nil {
-		atomic.StorePointer(&t.byProcessor[p], own)
 	}
 	procUnpin()
+	if t.plain != nil {
+		return t.plain.isStill(stamp, by)
+	}
+	h := t.takeSlowly()
+	if is = cIsStill(h, &words); is && by != nil {
+		by.looked(true)
+	}
+	h.put()
+	return is
 }
 
 // count counts the calls. An end is counted after its beginning, so it is read before that.
@@ -600,19 +542,4 @@ func (t *nativeTable) count(st *Stats) {
 		st.Loads += atomic.LoadUint64(&h.loads)
 	}
 	st.InUse += st.Loads
-}
-
-func (t *nativeTable) err() error {
-	if t.isEnded.Load() {
-		return ErrClosed
-	}
-	return t.why
-}
-
-// close ends all stamps.
-func (t *nativeTable) close() {
-	if t.plain != nil {
-		t.plain.close()
-	}
-	t.isEnded.Store(true)
 }

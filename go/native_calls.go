@@ -26,20 +26,26 @@ func cMake(h *handle, c *cCall) uint32
 //go:noescape
 func cFree(h *handle, c *cCall) uint32
 
+// It asks for the asking's key with its own call, and writes what is asked.
+//
 //go:noescape
-func cAsk(h *handle, c *cCall, key pointer, n uintptr, tries uint32, out *cAsked) uint32
+func cAsk(h *handle, a *asking) uint32
+
+// It writes what the handle has told.
+//
+//go:noescape
+func cSettle(h *handle, a *asking) uint32
 
 //go:noescape
-func cSettle(h *handle, c *cCall, value uint64, told *cAudience) uint32
+func cLeave(h *handle, c *cCall) uint32
+
+// It writes the handle's id.
+//
+//go:noescape
+func cForget(h *handle, key string) uint32
 
 //go:noescape
-func cLeave(h *handle, c *cCall, value *uint64) uint32
-
-//go:noescape
-func cForget(h *handle, key pointer, n uintptr, tries uint32, id *callID) uint32
-
-//go:noescape
-func cForgetCall(h *handle, key pointer, n uintptr, id *callID, stamp *words, tries uint32) uint32
+func cForgetCall(h *handle, key string, id *callID, stamp *words) uint32
 
 //go:noescape
 func cIsStill(h *handle, stamp *words) bool

@@ -181,24 +181,23 @@ func crowds(t *testing.T, p *core, key string) (leave func()) {
 	}
 	calls := make([]cCall, 0, 1<<20)
 	for {
-		var c cCall
-		var out cAsked
-		if cMake(h, &c) != codeDone {
+		a := asking{key: key}
+		if cMake(h, &a.own) != codeDone {
 			t.Fatal("no memory for a call")
 		}
-		code := cAsk(h, &c, bytesOf(key), uintptr(len(key)), tries, &out)
+		code := cAsk(h, &a)
 		if code == codeCrowded {
-			cFree(h, &c)
+			cFree(h, &a.own)
 			break
 		}
 		if code != codeJoined {
 			t.Fatal("it joins", code)
 		}
-		calls = append(calls, c)
+		calls = append(calls, a.own)
 	}
 	return func() {
 		for i := range calls {
-			cLeave(h, &calls[i], &h.value)
+			cLeave(h, &calls[i])
 			cFree(h, &calls[i])
 		}
 		cClose(h)

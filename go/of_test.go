@@ -346,8 +346,9 @@ func TestJoinersOfManyCalls(t *testing.T) {
 					runtime.Gosched()
 					return it, nil
 				}
-				var r Result
-				g.core().do(&r, "key", load)
+				a := asking{key: "key"}
+				g.core().do(&a, load)
+				r := &a.got
 				it := r.Val.(*run)
 				it.got.Add(1)
 				told := it.told.Swap(int64(r.Joiners))

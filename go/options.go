@@ -76,14 +76,11 @@ func (s *sizes) core() (*core, error) {
 		return nil, fmt.Errorf("%w: %d loads, not 1 to %d", ErrSize, s.loads, mostLoads)
 	}
 	p := newCore(s)
-	if err := p.table.err(); err != nil {
-		return nil, err
-	}
-	return p, nil
+	return p, p.why
 }
 
 func newCore(s *sizes) *core {
 	p := &core{label: s.label, record: s.record, onPanic: s.onPanic}
-	p.table.open(s)
+	p.why = p.table.open(s)
 	return p
 }

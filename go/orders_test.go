@@ -820,7 +820,7 @@ func (w *orderWorld) end() error {
 	if !hasNoCalls(&w.core().table) {
 		return errors.New("a call of the table was not given back once")
 	}
-	w.core().table.close()
+	w.core().isEnded.Store(true)
 	return w.judged()
 }
 

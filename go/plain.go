@@ -19,12 +19,11 @@ const cacheLine = 64
 // Keys are hashed to slots, each of which has a number: how many Forgets of the slot's keys there were. Slots that follow one another
 // are of one shard, which has a lock and the open calls of its keys.
 type plainTable struct {
-	seed    maphash.Seed
-	shards  []shard
-	bits    uint            // a shard has 1<<bits slots
-	ages    []atomic.Uint64 // by slot: the number, which is written under the lock of its shard
-	first   uint64          // what a number begins with in stamps; another in each group
-	isEnded atomic.Bool
+	seed   maphash.Seed
+	shards []shard
+	bits   uint            // a shard has 1<<bits slots
+	ages   []atomic.Uint64 // by slot: the number, which is written under the lock of its shard
+	first  uint64          // what a number begins with in stamps; another in each group
 }
 
 type shard struct {
@@ -47,7 +46,7 @@ const (
 	slotsOfShard = 1 << bitsOfShard // or more
 )
 
-func (t *plainTable) open(size *sizes) {
+func (t *plainTable) open(size *sizes) error {
 	shards, slots := usualShards, uint64(slotsOfShard)
 	if size.isSmall {
 		shards = fewestShards
@@ -62,6 +61,7 @@ func (t *plainTable) open(size *sizes) {
 	t.shards = make([]shard, shards)
 	t.ages = make([]atomic.Uint64, slots*uint64(shards))
 	t.first = random()>>1 | 1
+	return nil
 }
 
 // random returns a number that nobody knows.
@@ -106,9 +106,6 @@ func (t *plainTable) ask(a *asking) {
 	c.key, c.slot, c.id = a.key, slot, callID{uint32(slot >> t.bits), 0, s.loads}
 	c.holders.Store(1)
 	a.call, a.id, a.stamp = c, c.id, t.stampOf(slot)
-	if t.isEnded.Load() {
-		a.stamp = Stamp{}.words()
-	}
 }
 
 // share is for the library's table: here a call is shared at once.
@@ -152,7 +149,7 @@ func (t *plainTable) forget(key string) (id callID, closed bool) {
 }
 
 // forgetCall forgets this call of the key, if it is open or has a stamp that has not ended.
-func (t *plainTable) forgetCall(key string, it Call) Hit {
+func (t *plainTable) forgetCall(key string, it Call, isEnded bool) Hit {
 	slot, s := t.slotOf(key)
 	acquire(&s.mu)
 	defer s.mu.Unlock()
@@ -160,7 +157,7 @@ func (t *plainTable) forgetCall(key string, it Call) Hit {
 	if c := s.calls[key]; c != nil && c.id == it.id {
 		s.closes(c)
 		hit = Closed
-	} else if it.stamp.words() == t.stampOf(slot) && !t.isEnded.Load() {
+	} else if it.stamp.words() == t.stampOf(slot) && !isEnded {
 		hit = Cleared
 	}
 	if hit != Missed {
@@ -181,21 +178,13 @@ func (t *plainTable) ends(s *shard, slot uint64) {
 	s.forgets++
 }
 
-func (t *plainTable) isStill(stamp Stamp) bool {
+func (t *plainTable) isStill(stamp Stamp, by *tally) (is bool) {
 	w := stamp.words()
-	return w.slot < uint64(len(t.ages)) && w == t.stampOf(w.slot) && !t.isEnded.Load()
-}
-
-// isHit returns what isStill does, and counts a true answer in by, unless that is nil.
-func (t *plainTable) isHit(stamp Stamp, by *tally) (is bool) {
-	if is = t.isStill(stamp); is && by != nil {
+	if is = w.slot < uint64(len(t.ages)) && w == t.stampOf(w.slot); is && by != nil {
 		by.looked(true)
 	}
 	return is
 }
-
-// close ends all stamps.
-func (t *plainTable) close() { t.isEnded.Store(true) }
 
 func (t *plainTable) count(st *Stats) {
 	for i := range t.shards {
@@ -207,11 +196,4 @@ func (t *plainTable) count(st *Stats) {
 		st.InUse += uint64(s.open)
 		s.mu.Unlock()
 	}
-}
-
-func (t *plainTable) err() error {
-	if t.isEnded.Load() {
-		return ErrClosed
-	}
-	return nil
 }

@@ -485,7 +485,7 @@ func playRecorded(t *testing.T, seed int64, log *bytes.Buffer) {
 		if st := p.stats(); st.InUse != 0 || st.Forgets != w.forgets || waiting(w.group) != 0 {
 			w.problem("something is left, or numbers: %v, %d Forgets", st, w.forgets)
 		}
-		p.table.close()
+		p.isEnded.Store(true)
 	}
 	if len(w.problems) > 0 {
 		for _, line := range w.trace {

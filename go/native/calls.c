@@ -2,7 +2,7 @@
 #include <stddef.h>
 #include "sflight.h"
 
-// What an asking writes: see cAsked in native.go.
+// What an asking writes: see asked in calls.go.
 typedef struct {
 	sflight_id id;
 	sflight_stamp stamp;
