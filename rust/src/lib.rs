@@ -101,16 +101,11 @@ mod keyed;
 mod places;
 mod post;
 mod recording;
-#[cfg(all(test, sflight_schedules))]
-mod schedules;
-#[cfg(all(test, not(sflight_schedules)))]
-#[path = "schedules/elsewhere.rs"]
+#[cfg(test)]
+#[cfg_attr(not(sflight_schedules), path = "schedules/elsewhere.rs")]
 mod schedules;
 mod shared;
-#[cfg(not(test))]
-mod sync;
-#[cfg(test)]
-#[path = "schedules/sync.rs"]
+#[cfg_attr(test, path = "schedules/sync.rs")]
 mod sync;
 
 #[cfg(test)]
@@ -179,23 +174,19 @@ pub enum Error {
 
 impl fmt::Display for Error {
     fn fmt(&self, f: &mut fmt::Formatter<'_>) -> fmt::Result {
-        match self {
+        f.write_str(match self {
             Error::Loads(count) => {
-                write!(f, "{count} concurrent loads: a group is for 1 to 1,048,576")
+                return write!(f, "{count} concurrent loads: a group is for 1 to 1,048,576");
             }
-            Error::OutOfMemory => {
-                f.write_str("out of memory: free some, or expect fewer loads or entries")
+            Error::OutOfMemory => "out of memory: free some, or expect fewer loads or entries",
+            Error::TimedOut => {
+                "timed out: the key's load goes on; ask again, or forget the key to load it anew"
             }
-            Error::TimedOut => f.write_str(
-                "timed out: the key's load goes on; ask again, or forget the key to load it anew",
-            ),
-            Error::OldProcessor => f.write_str(
-                "the processor is below x86-64-v2: build with --cfg singleflight_plain for it",
-            ),
-            Error::NoLoader => {
-                f.write_str("refresh_after needs a loader: see CacheBuilder::loader")
+            Error::OldProcessor => {
+                "the processor is below x86-64-v2: build with --cfg singleflight_plain for it"
             }
-        }
+            Error::NoLoader => "refresh_after needs a loader: see CacheBuilder::loader",
+        })
     }
 }
 
