@@ -4,7 +4,7 @@
 use crate::keyed::{Audience, Call, Handle};
 use crate::sync::{pause, point};
 use crate::{Error, Stats};
-use std::cell::{Cell, UnsafeCell};
+use std::cell::UnsafeCell;
 use std::collections::hash_map::RandomState;
 use std::hash::BuildHasher;
 use std::num::NonZero;
@@ -37,6 +37,7 @@ const TAKEN: usize = 1;
 const HOLDS: usize = 2;
 
 /// A handle, and what its calls need beside it.
+#[derive(Default)]
 pub(crate) struct Seat {
     pub(crate) handle: Handle,
     idle: Vec<Call>,
@@ -83,6 +84,7 @@ impl Seat {
 /// of memory.
 ///
 /// Whoever has a place may read what a cache is about to free: see [`Places::pin`].
+#[derive(Default)]
 #[repr(align(128))]
 struct Place {
     state: AtomicUsize,
@@ -105,12 +107,6 @@ impl Drop for Hold<'_> {
 }
 
 impl Place {
-    fn new(handle: Handle) -> Self {
-        let (idle, [loads, joins, forgets, settles, hits, misses]) = (Vec::new(), [0; 6]);
-        let seat = Seat { handle, idle, loads, joins, forgets, settles, hits, misses };
-        Place { state: AtomicUsize::new(FREE), holds: Default::default(), seat: seat.into() }
-    }
-
     /// Takes it where it is free, and protects an address.
     #[inline]
     fn try_take(&self, address: usize) -> Option<Taken<'_>> {
@@ -120,20 +116,8 @@ impl Place {
         is_free.then(|| Taken(self))
     }
 
-    /// Takes it where it is free.
-    #[inline]
-    fn try_lock(&self) -> Option<Taken<'_>> {
-        self.try_take(TAKEN)
-    }
-
     fn lock(&self) -> Taken<'_> {
-        let mut tries = 0;
-        loop {
-            if let Some(taken) = self.try_lock() {
-                return taken;
-            }
-            pause(&mut tries);
-        }
+        until(|| self.try_take(TAKEN))
     }
 }
 
@@ -185,35 +169,35 @@ impl Drop for Taken<'_> {
 /// is always open, and the others are split off from it.
 pub(crate) struct Places(Box<[Place]>);
 
-/// Seeds that nobody knows.
-fn seeds() -> [u64; 2] {
-    let random = RandomState::new();
-    [0, 1].map(|number: u64| random.hash_one(number))
+/// Tries until there is something.
+#[inline]
+pub(crate) fn until<R>(mut try_once: impl FnMut() -> Option<R>) -> R {
+    let mut tries = 0;
+    loop {
+        if let Some(it) = try_once() {
+            return it;
+        }
+        pause(&mut tries);
+    }
 }
 
 impl Places {
     pub(crate) fn open(cells: u32) -> Result<Self, Error> {
-        let first = Handle::open(cells, seeds())?;
-        let more = (1..place_count()).map(|_| Handle::NONE);
-        Ok(Places(std::iter::once(first).chain(more).map(Place::new).collect()))
+        let mut places: Box<[Place]> = (0..place_count()).map(|_| Place::default()).collect();
+        // Seeds that nobody knows.
+        let random = RandomState::new();
+        let seeds = [0u64, 1].map(|number| random.hash_one(number));
+        places[0].seat.get_mut().handle = Handle::open(cells, seeds)?;
+        Ok(Places(places))
     }
 
     /// Runs with a handle.
     #[inline]
     pub(crate) fn with<R>(&self, run: impl FnOnce(&mut Seat) -> R) -> R {
-        let own = thread_number() & (self.0.len() - 1);
-        let mut seat = match self.0[own].try_lock() {
-            Some(seat) => seat,
-            None => self.elsewhere(own),
-        };
-        if !seat.handle.is_open() {
-            seat = self.opened(seat);
-        }
-        run(&mut seat)
+        run(&mut until(|| self.pin(TAKEN)))
     }
 
-    /// Takes a place, and protects what is at the address. `None` where all are taken, or there is no
-    /// memory for a handle.
+    /// Takes a place, and protects what is at the address. `None` where all are taken.
     ///
     /// Whoever reads finds an address, takes a place with it, and looks once more whether the address
     /// is where it was found. Whoever frees takes the address away, and then asks
@@ -224,29 +208,34 @@ impl Places {
         let own = thread_number() & (self.0.len() - 1);
         let taken = match self.0[own].try_take(address) {
             Some(taken) => taken,
-            None => self.pin_elsewhere(own, address)?,
+            None => self.elsewhere(own, address)?,
         };
         match taken.handle.is_open() {
             true => Some(taken),
-            false => self.pin_opened(taken, own, address),
+            false => Some(self.opened(taken, address)),
         }
     }
 
-    /// Pins the address as `pin` does, at a place that no thread has used before.
     #[cold]
     #[inline(never)]
-    fn pin_opened<'a>(&'a self, taken: Taken<'a>, own: usize, address: usize) -> Option<Taken<'a>> {
-        drop(taken);
-        self.with(|_| ());
-        let taken = self.pin_elsewhere(own, address)?;
-        taken.handle.is_open().then_some(taken)
-    }
-
-    #[cold]
-    #[inline(never)]
-    fn pin_elsewhere(&self, own: usize, address: usize) -> Option<Taken<'_>> {
+    fn elsewhere(&self, own: usize, address: usize) -> Option<Taken<'_>> {
         let (before, after) = self.0.split_at(own);
         after.iter().chain(before).find_map(|place| place.try_take(address))
+    }
+
+    /// This place with its handle opened; or the first one, where there is no memory for a handle.
+    #[cold]
+    #[inline(never)]
+    fn opened<'a>(&'a self, mut seat: Taken<'a>, address: usize) -> Taken<'a> {
+        // Whoever has the first place waits for no other.
+        let mut first = until(|| self.0[0].try_take(address));
+        match first.handle.split() {
+            None => first,
+            Some(handle) => {
+                seat.handle = handle;
+                seat
+            }
+        }
     }
 
     /// Whether somebody may read what is at the address, which nobody can find any more.
@@ -258,29 +247,6 @@ impl Places {
         };
         point();
         self.0.iter().any(is_held)
-    }
-
-    #[cold]
-    #[inline(never)]
-    fn elsewhere(&self, own: usize) -> Taken<'_> {
-        let (before, after) = self.0.split_at(own);
-        let mut places = after.iter().chain(before);
-        places.find_map(|place| place.try_lock()).unwrap_or_else(|| self.0[own].lock())
-    }
-
-    /// This place with its handle opened; or the first one, where there is no memory for a handle.
-    #[cold]
-    #[inline(never)]
-    fn opened<'a>(&'a self, mut seat: Taken<'a>) -> Taken<'a> {
-        // Whoever has the first place waits for no other.
-        let mut first = self.0[0].lock();
-        match first.handle.split() {
-            None => first,
-            Some(handle) => {
-                seat.handle = handle;
-                seat
-            }
-        }
     }
 
     /// A handle of the group that belongs to no place. None where there is no memory.
@@ -319,13 +285,8 @@ impl Places {
 #[inline]
 pub(crate) fn thread_number() -> usize {
     static NEXT: AtomicUsize = AtomicUsize::new(0);
-    thread_local!(static NUMBER: Cell<usize> = const { Cell::new(usize::MAX) });
-    NUMBER.with(|number| {
-        if number.get() == usize::MAX {
-            number.set(NEXT.fetch_add(1, Relaxed));
-        }
-        number.get()
-    })
+    thread_local!(static NUMBER: usize = NEXT.fetch_add(1, Relaxed));
+    NUMBER.with(|number| *number)
 }
 
 #[test]
@@ -352,9 +313,9 @@ fn what_somebody_reads_is_protected() {
 
 #[test]
 fn one_thread_at_a_time_has_a_seat() {
-    let place = Place::new(Handle::NONE);
-    let mut taken = place.try_lock().unwrap();
-    assert!((0..3).all(|_| place.try_lock().is_none()), "it is taken");
+    let place = Place::default();
+    let mut taken = place.try_take(TAKEN).unwrap();
+    assert!((0..3).all(|_| place.try_take(TAKEN).is_none()), "it is taken");
     taken.loads += 1;
     drop(taken);
     const EACH: u64 = if cfg!(miri) { 50 } else { 20_000 };

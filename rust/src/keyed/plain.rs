@@ -58,6 +58,7 @@ impl Table {
     }
 }
 
+#[derive(Default)]
 pub(crate) struct Handle(Option<Arc<Table>>);
 
 /// One asking at a time.
@@ -69,8 +70,6 @@ pub(crate) struct Call {
 }
 
 impl Handle {
-    pub(crate) const NONE: Handle = Handle(None);
-
     pub(crate) fn open(cells: u32, _: [u64; 2]) -> Result<Self, Error> {
         let ages = cells as usize * AGES_OF_CELL;
         let ages = (1 << ages.ilog2()).clamp(FEWEST_AGES, MOST_AGES);
