@@ -1,9 +1,9 @@
 //! How one asks: leading and loading, or joining and waiting.
 
 use crate::keyed;
-use crate::post::{Post, Ticket, Told};
+use crate::post::{Post, Ticket};
 use crate::recording::{CallRecord, ValueRecord};
-use crate::shared::{Crowded, Join, Shared};
+use crate::shared::{Crowded, Shared};
 use crate::sync::{instant, pause};
 use crate::{Call, Loaded, Stamp};
 use std::future::{poll_fn, Future};
@@ -23,7 +23,7 @@ pub(crate) struct Asker<T> {
     pub(crate) value: Option<Arc<ValueRecord>>,
     // Where the receiver of a job waits for what it loads. It does not join the call in the library,
     // which would make the value a shared one.
-    own: Option<Arc<Post<T>>>,
+    pub(crate) own: Option<Arc<Post<T>>>,
     /// Of the answer that it got last.
     pub(crate) last: Option<Stamp>,
 }
@@ -36,28 +36,33 @@ pub(crate) struct Leads {
     pub(crate) record: Option<Arc<ValueRecord>>,
 }
 
-/// Ends the load that its asker runs. Where that ends without a value, as by a panic, the call is
-/// settled with nothing, so that each caller that joined asks again.
+/// The load that its asker runs. Where that ends without a value, as by a panic, the call is settled
+/// with nothing, so that each caller that joined asks again.
 struct Load<'a, T>(&'a mut Asker<T>, &'a Shared<T>);
 
 impl<T> Load<'_, T> {
-    /// The load has returned this.
+    /// It begins, and is told this.
     #[inline]
-    fn end(self, value: T) -> Loaded<T> {
-        let asker = &mut *self.0;
+    fn begins(&self) -> Leads {
+        if let Some(record) = &self.0.record {
+            record.leads();
+        }
+        Leads { stamp: self.0.name.stamp, record: self.0.value.clone() }
+    }
+
+    /// It has returned this.
+    #[inline]
+    fn ends(self, value: T) -> Loaded<T> {
         let value = Arc::new(value);
-        let mut got = Loaded { value, joiners: 0, led: true, call: asker.name };
-        self.1.settle(asker, Some(&mut got));
-        asker.last = Some(got.stamp());
-        asker.tell_own(Some(&got));
-        std::mem::forget(self);
+        let mut got = Loaded { value, joiners: 0, led: true, call: self.0.name };
+        self.1.settle(self.0, Some(&mut got));
+        self.0.last = Some(got.stamp());
         got
     }
 }
 
 impl<T> Drop for Load<'_, T> {
     fn drop(&mut self) {
-        // The load has ended without a value.
         self.0.abandon(self.1);
     }
 }
@@ -66,46 +71,6 @@ impl<T> Asker<T> {
     #[inline]
     pub(crate) fn new() -> Self {
         Asker { lead: None, name: Call::NONE, record: None, value: None, own: None, last: None }
-    }
-
-    /// Asks for the key, again where its call is crowded. Returns the call that it has joined, or
-    /// none where it has to load; or that the call was crowded until the deadline.
-    #[inline]
-    pub(crate) fn ask(
-        &mut self,
-        shared: &Shared<T>,
-        key: &[u8],
-        deadline: Option<Instant>,
-    ) -> Result<Option<Join>, Crowded> {
-        let mut tries = 0;
-        loop {
-            match shared.ask(key, self) {
-                Err(Crowded) if deadline.is_none_or(|deadline| instant() < deadline) => {
-                    pause(&mut tries);
-                }
-                asked => return asked,
-            }
-        }
-    }
-
-    /// The load that it has to run, and what that is told.
-    #[inline]
-    fn load<'a>(&'a mut self, shared: &'a Shared<T>) -> (Load<'a, T>, Leads) {
-        if let Some(record) = &self.record {
-            record.leads();
-        }
-        let leads = Leads { stamp: self.name.stamp, record: self.value.clone() };
-        (Load(self, shared), leads)
-    }
-
-    /// Which call it leads.
-    pub(crate) fn call(&self) -> Option<Call> {
-        self.lead.as_ref().map(|_| self.name)
-    }
-
-    /// Where a receiver waits for what it loads, which is not counted as one who joined.
-    pub(crate) fn own(&mut self) -> Arc<Post<T>> {
-        self.own.insert(Arc::default()).clone()
     }
 
     /// Settles the call that it leads with nothing. Where its job or future was leaked, nobody can
@@ -121,15 +86,6 @@ impl<T> Asker<T> {
     #[inline(never)]
     fn abandon_load(&mut self, shared: &Shared<T>) {
         shared.settle(self, None);
-        self.tell_own(None);
-    }
-
-    /// Tells the receiver of the job, if there is one.
-    #[inline]
-    fn tell_own(&mut self, got: Option<&Loaded<T>>) {
-        if let Some(own) = self.own.take() {
-            own.tell(Told::new(got, None)).wake();
-        }
     }
 
     /// Gets the key, by the load or from a call of another: none where that takes longer than until
@@ -142,29 +98,35 @@ impl<T> Asker<T> {
         deadline: Option<Instant>,
         load: impl FnOnce(Leads) -> T,
     ) -> Option<Loaded<T>> {
+        let mut tries = 0;
         loop {
-            let ticket = match self.ask(shared, key, deadline) {
+            let ticket = match shared.ask(key, self) {
                 Ok(None) => return Some(self.run(shared, load)),
-                Ok(Some(join)) => Some(Ticket::new(shared, join)),
-                Err(Crowded) => None,
+                Ok(Some(join)) => Ticket::new(shared, join),
+                Err(Crowded) if deadline.is_none_or(|deadline| instant() < deadline) => {
+                    pause(&mut tries);
+                    continue;
+                }
+                Err(Crowded) => break,
             };
-            let Some(ticket) = ticket.filter(|ticket| ticket.wait(deadline)) else {
-                self.last = None;
-                return None;
-            };
+            if !ticket.wait(deadline) {
+                break;
+            }
             if let Some(got) = ticket.read() {
                 self.last = Some(got.stamp());
                 return Some(got);
             }
         }
+        self.last = None;
+        None
     }
 
     /// Runs the load that it has to run.
     #[inline]
     pub(crate) fn run(&mut self, shared: &Shared<T>, load: impl FnOnce(Leads) -> T) -> Loaded<T> {
-        let (guard, leads) = self.load(shared);
-        let value = load(leads);
-        guard.end(value)
+        let running = Load(self, shared);
+        let value = load(running.begins());
+        running.ends(value)
     }
 
     /// Gets the key in a task, by the load or from a call of another.
@@ -201,22 +163,19 @@ impl<T> Asker<T> {
         shared: &Shared<T>,
         load: impl FnOnce(Leads) -> F,
     ) -> Loaded<T> {
-        let (guard, leads) = self.load(shared);
+        let running = Load(self, shared);
         // The load is dropped here, before its call is settled: so it has ended when another begins.
-        let value = load(leads).await;
-        guard.end(value)
+        let value = load(running.begins()).await;
+        running.ends(value)
     }
 }
 
 // Is pending once, and wakes itself.
 async fn yield_now() {
-    let mut is_over = false;
+    let mut polls = [Poll::Pending, Poll::Ready(())].into_iter();
     poll_fn(|context| {
         context.waker().wake_by_ref();
-        match std::mem::replace(&mut is_over, true) {
-            true => Poll::Ready(()),
-            false => Poll::Pending,
-        }
+        polls.next().expect("nobody polls it again")
     })
     .await
 }

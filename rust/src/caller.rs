@@ -2,6 +2,7 @@
 
 use crate::asker::Asker;
 use crate::chan::Leader;
+use crate::places::until;
 use crate::shared::Shared;
 use crate::{Call, Error, ForgetOutcome, Job, Loaded, Receiver, Stamp};
 use std::fmt;
@@ -132,7 +133,8 @@ impl<T: Send + Sync> Caller<T> {
     /// assert_eq!(waits.join().unwrap(), 7);
     /// ```
     pub fn subscribe(&mut self, key: impl AsRef<[u8]>) -> (Receiver<T>, Option<Job<'_, T>>) {
-        Job::subscribe(Leader::Lent(self), key.as_ref())
+        let join = until(|| self.shared.ask(key.as_ref(), &mut self.asker).ok());
+        Job::new(Leader::Lent(self), join)
     }
 
     /// Forgets the key, as [`Group::forget`](crate::Group::forget) does.

@@ -1,9 +1,9 @@
 //! Calls whose value comes to a receiver, and whose load is a job.
 
-use crate::asker::Leads;
+use crate::asker::{Asker, Leads};
 use crate::post::Ticket;
 use crate::recording::ValueRecord;
-use crate::shared::{Crowded, Join, Shared};
+use crate::shared::{Join, Shared};
 use crate::{Call, Caller, Loaded};
 use std::fmt;
 use std::future::Future;
@@ -25,6 +25,13 @@ pub(crate) enum Leader<'a, T> {
 }
 
 impl<T> Leader<'_, T> {
+    fn asker(&self) -> &Asker<T> {
+        match self {
+            Leader::Own(caller) => &caller.asker,
+            Leader::Lent(caller) => &caller.asker,
+        }
+    }
+
     fn caller(&mut self) -> &mut Caller<T> {
         match self {
             Leader::Own(caller) => caller,
@@ -34,30 +41,18 @@ impl<T> Leader<'_, T> {
 }
 
 impl<'a, T> Job<'a, T> {
-    pub(crate) fn subscribe(mut leader: Leader<'a, T>, key: &[u8]) -> (Receiver<T>, Option<Self>) {
-        let Caller { shared, asker } = leader.caller();
-        let asked = asker.ask(shared, key, None);
-        let join = asked.unwrap_or_else(|Crowded| unreachable!("there is no deadline"));
-        Self::asked(leader, join)
-    }
-
-    /// As `subscribe`, where it would not wait for others to leave the call.
-    pub(crate) fn try_subscribe(
+    /// The leader has asked, and has joined that call, or has to load.
+    pub(crate) fn new(
         mut leader: Leader<'a, T>,
-        key: &[u8],
-    ) -> Result<(Receiver<T>, Option<Self>), Crowded> {
-        let Caller { shared, asker } = leader.caller();
-        let join = shared.ask(key, asker)?;
-        Ok(Self::asked(leader, join))
-    }
-
-    /// It has asked, and has joined that call, or has to load.
-    fn asked(mut leader: Leader<'a, T>, join: Option<Join>) -> (Receiver<T>, Option<Self>) {
+        join: Option<Join>,
+    ) -> (Receiver<T>, Option<Self>) {
         let Caller { shared, asker } = leader.caller();
         if let Some(join) = join {
             return (Receiver(Some(Ticket::new(shared.clone(), join))), None);
         }
-        (Receiver(Some(Ticket::of(asker.own()))), Some(Job(leader)))
+        // It is not counted as one who joined.
+        let own = asker.own.insert(Arc::default()).clone();
+        (Receiver(Some(Ticket::of(own))), Some(Job(leader)))
     }
 
     /// Returns the call that the job leads, for [`Group::forget_call`](crate::Group::forget_call);
@@ -71,10 +66,8 @@ impl<'a, T> Job<'a, T> {
     /// assert_eq!(group.forget_call("key", call), ForgetOutcome::Closed);
     /// ```
     pub fn call(&self) -> Option<Call> {
-        match &self.0 {
-            Leader::Own(caller) => caller.asker.call(),
-            Leader::Lent(caller) => caller.asker.call(),
-        }
+        let asker = self.0.asker();
+        asker.lead.as_ref().map(|_| asker.name)
     }
 
     /// Runs the load, settles the call with its value, and returns that value.
@@ -97,10 +90,7 @@ impl<'a, T> Job<'a, T> {
 
     /// The record of the call, if it is one of a cache that is recorded.
     pub(crate) fn record(&self) -> Option<&Arc<ValueRecord>> {
-        match &self.0 {
-            Leader::Own(caller) => caller.asker.value.as_ref(),
-            Leader::Lent(caller) => caller.asker.value.as_ref(),
-        }
+        self.0.asker().value.as_ref()
     }
 
     /// Awaits the load, settles the call with its value, and returns that value. If the future is

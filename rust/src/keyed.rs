@@ -64,7 +64,7 @@ mod tests {
     use crate::Stamp;
 
     fn open() -> (Handle, Handle) {
-        let mut first = Handle::open(8, [0x9e37_79b9_7f4a_7c15, 0xd1b5_4a32_d192_ed03]).unwrap();
+        let mut first = Handle::open(8).unwrap();
         let second = first.split().unwrap();
         assert!(first.is_open() && second.is_open() && !Handle::default().is_open());
         (first, second)

@@ -126,6 +126,7 @@ pub use cache::{
 pub use caller::Caller;
 use chan::Leader;
 pub use chan::{Job, Receiver};
+use places::until;
 pub use recording::{RecordError, Recorded, Recording};
 use shared::{Crowded, Shared};
 use std::fmt;
@@ -499,7 +500,7 @@ impl<T: Send + Sync> Group<T> {
     where
         T: 'a,
     {
-        Job::subscribe(Leader::Own(self.caller()), key.as_ref())
+        until(|| self.try_subscribe(&key).ok())
     }
 
     /// As `subscribe`, where it would not wait for others to leave the call.
@@ -510,7 +511,9 @@ impl<T: Send + Sync> Group<T> {
     where
         T: 'a,
     {
-        Job::try_subscribe(Leader::Own(self.caller()), key.as_ref())
+        let mut caller = self.caller();
+        let join = self.shared.ask(key.as_ref(), &mut caller.asker)?;
+        Ok(Job::new(Leader::Own(caller), join))
     }
 
     /// Forgets the key: a caller that asks from now on never receives a value whose load began

@@ -3,10 +3,8 @@
 
 use crate::keyed::{Audience, Call, Handle};
 use crate::sync::{pause, point};
-use crate::{Error, Stats};
+use crate::Stats;
 use std::cell::UnsafeCell;
-use std::collections::hash_map::RandomState;
-use std::hash::BuildHasher;
 use std::num::NonZero;
 use std::ops::{Deref, DerefMut};
 use std::sync::atomic::{
@@ -182,13 +180,11 @@ pub(crate) fn until<R>(mut try_once: impl FnMut() -> Option<R>) -> R {
 }
 
 impl Places {
-    pub(crate) fn open(cells: u32) -> Result<Self, Error> {
+    /// With the first handle, of which the others are split off.
+    pub(crate) fn new(first: Handle) -> Self {
         let mut places: Box<[Place]> = (0..place_count()).map(|_| Place::default()).collect();
-        // Seeds that nobody knows.
-        let random = RandomState::new();
-        let seeds = [0u64, 1].map(|number| random.hash_one(number));
-        places[0].seat.get_mut().handle = Handle::open(cells, seeds)?;
-        Ok(Places(places))
+        places[0].seat.get_mut().handle = first;
+        Places(places)
     }
 
     /// Runs with a handle.
@@ -249,11 +245,6 @@ impl Places {
         self.0.iter().any(is_held)
     }
 
-    /// A handle of the group that belongs to no place. None where there is no memory.
-    pub(crate) fn split(&self) -> Option<Handle> {
-        self.0[0].lock().handle.split()
-    }
-
     /// How large the group is, as far as a handle near the thread knows.
     #[cfg(test)]
     pub(crate) fn size(&self) -> crate::keyed::Size {
@@ -291,7 +282,7 @@ pub(crate) fn thread_number() -> usize {
 
 #[test]
 fn what_somebody_reads_is_protected() {
-    let places = Places::open(1).unwrap();
+    let places = Places::new(Handle::open(1).unwrap());
     let [first, second, third] = [0x100, 0x200, 0x300];
     assert!(!places.protects(first));
     // It opens the handle of its place.

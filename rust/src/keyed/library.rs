@@ -2,6 +2,8 @@
 
 use super::{Asked, Audience, Busy, Id, Size};
 use crate::{Error, Stamp};
+use std::collections::hash_map::RandomState;
+use std::hash::BuildHasher;
 
 const DONE: u32 = 0;
 const LED: u32 = 1;
@@ -84,9 +86,12 @@ fn unexpected(code: u32) -> ! {
 }
 
 impl Handle {
-    pub(crate) fn open(cells: u32, seeds: [u64; 2]) -> Result<Self, Error> {
+    pub(crate) fn open(cells: u32) -> Result<Self, Error> {
+        // Seeds that nobody knows.
+        let random = RandomState::new();
+        let [first, second] = [0u64, 1].map(|number| random.hash_one(number));
         let mut handle = Handle::default();
-        match sflight_open(&mut handle, cells.into(), seeds[0], seeds[1]) {
+        match sflight_open(&mut handle, cells.into(), first, second) {
             DONE => Ok(handle),
             OLD_PROCESSOR => Err(Error::OldProcessor),
             _ => Err(Error::OutOfMemory),

@@ -70,7 +70,7 @@ pub(crate) struct Call {
 }
 
 impl Handle {
-    pub(crate) fn open(cells: u32, _: [u64; 2]) -> Result<Self, Error> {
+    pub(crate) fn open(cells: u32) -> Result<Self, Error> {
         let ages = cells as usize * AGES_OF_CELL;
         let ages = (1 << ages.ilog2()).clamp(FEWEST_AGES, MOST_AGES);
         Ok(Handle(Some(Arc::new(Table {
@@ -210,7 +210,7 @@ impl Handle {
 
 #[test]
 fn a_call_is_held_only_so_often() {
-    let mut handle = Handle::open(1, [1, 2]).unwrap();
+    let mut handle = Handle::open(1).unwrap();
     let mut name = crate::Call::NONE;
     let mut calls: Vec<_> = (0..=HOLDERS).map(|_| handle.make().unwrap()).collect();
     let asked = calls.iter_mut().map(|call| handle.ask(call, b"key", &mut name));
