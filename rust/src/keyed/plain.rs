@@ -23,14 +23,21 @@ const AGES_OF_CELL: usize = 16;
 const FEWEST_AGES: usize = 1 << 8;
 const MOST_AGES: usize = 1 << 20;
 
+/// A call that is open or held.
+struct Open {
+    /// The shard is its cell.
+    id: Id,
+    key: Arc<[u8]>,
+    /// Changed with the lock of its shard held, but for those who leave.
+    of: Mutex<Audience>,
+}
+
 /// No two of them lie in one line of memory.
 #[repr(align(128))]
 #[derive(Default)]
 struct Shard {
-    /// The open calls, by their keys: the generation of each.
-    open: HashMap<Arc<[u8]>, u64>,
-    /// The calls that are open or held, by their generations.
-    calls: HashMap<u64, Audience>,
+    /// The open calls, by their keys.
+    open: HashMap<Arc<[u8]>, Arc<Open>>,
     generation: u64,
 }
 
@@ -42,11 +49,11 @@ struct Table {
 }
 
 impl Shard {
-    /// Closes the key's open call, if there is one: its generation.
-    fn close(&mut self, key: &[u8]) -> Option<u64> {
-        let generation = self.open.remove(key)?;
-        self.calls.get_mut(&generation).expect("an open call").forgotten = true;
-        Some(generation)
+    /// Closes the key's open call, if there is one.
+    fn close(&mut self, key: &[u8]) -> Option<Id> {
+        let open = self.open.remove(key)?;
+        lock(&open.of).forgotten = true;
+        Some(open.id)
     }
 }
 
@@ -61,13 +68,8 @@ impl Table {
 #[derive(Default)]
 pub(crate) struct Handle(Option<Arc<Table>>);
 
-/// One asking at a time.
-pub(crate) struct Call {
-    // The shard is its cell. The generation is 0 where it is idle.
-    id: Id,
-    // Of the call that it leads.
-    key: Option<Arc<[u8]>>,
-}
+/// One asking at a time: the call that it leads or holds, or none.
+pub(crate) struct Call(Option<Arc<Open>>);
 
 impl Handle {
     pub(crate) fn open(cells: u32) -> Result<Self, Error> {
@@ -94,68 +96,61 @@ impl Handle {
     }
 
     pub(crate) fn make(&mut self) -> Option<Call> {
-        Some(Call { id: Id::default(), key: None })
+        Some(Call(None))
     }
 
     pub(crate) fn ask(&mut self, call: &mut Call, key: &[u8], name: &mut crate::Call) -> Asked {
-        assert!(call.id.generation == 0, "an idle call");
+        assert!(call.0.is_none(), "an idle call");
         if is_unlucky() {
             return Asked::Busy;
         }
         let table = self.table();
         let (slot, at) = table.of(key);
         let mut shard = lock(&table.shards[at]);
-        let (asked, generation) = if let Some(generation) = shard.open.get(key).copied() {
-            let of = shard.calls.get_mut(&generation).expect("an open call");
+        let (asked, open) = if let Some(open) = shard.open.get(key) {
+            let mut of = lock(&open.of);
             if of.holders == HOLDERS {
                 return Asked::Crowded;
             }
             of.holders += 1;
             of.joined = true;
-            (Asked::Joined, generation)
+            (Asked::Joined, open.clone())
         } else {
             shard.generation += 1;
-            let (key, generation): (Arc<[u8]>, _) = (key.into(), shard.generation);
-            shard.open.insert(key.clone(), generation);
-            shard.calls.insert(generation, Audience { holders: 1, ..Audience::default() });
-            call.key = Some(key);
+            let id = Id { table: 0, cell: at as u32, generation: shard.generation };
+            let of = Mutex::new(Audience { holders: 1, ..Audience::default() });
+            let open = Arc::new(Open { id, key: key.into(), of });
+            shard.open.insert(open.key.clone(), open.clone());
             let age = table.ages[slot].load(Acquire);
             name.stamp = Stamp { table: 0, slot: slot as u64, age };
-            (Asked::Led, generation)
+            (Asked::Led, open)
         };
-        call.id = Id { table: 0, cell: at as u32, generation };
-        name.id = call.id;
+        name.id = open.id;
+        call.0 = Some(open);
         asked
     }
 
     pub(crate) fn settle(&mut self, call: &mut Call) -> Option<Audience> {
-        let key = call.key.take().expect("a call that is led");
-        let Id { cell, generation, .. } = call.id;
-        let mut shard = lock(&self.table().shards[cell as usize]);
-        let audience = shard.calls[&generation];
+        let open = call.0.as_ref().expect("a call that is led");
+        let mut shard = lock(&self.table().shards[open.id.cell as usize]);
+        let audience = *lock(&open.of);
         // A Forget may have closed it, and a newer one be open.
         if !audience.forgotten {
-            shard.open.remove(&key);
+            shard.open.remove(&open.key);
         }
         if audience.joined || audience.forgotten {
             return Some(audience);
         }
-        shard.calls.remove(&generation);
-        call.id.generation = 0;
+        call.0 = None;
         None
     }
 
     pub(crate) fn leave(&mut self, call: &mut Call) -> bool {
-        let generation = std::mem::take(&mut call.id.generation);
-        let mut shard = lock(&self.table().shards[call.id.cell as usize]);
-        let of = shard.calls.get_mut(&generation).expect("a call that is held");
+        let open = call.0.take().expect("a call that is held");
+        let mut of = lock(&open.of);
         of.holders -= 1;
         // Its leader holds it until it is settled.
-        let is_last = of.holders == 0;
-        if is_last {
-            shard.calls.remove(&generation);
-        }
-        is_last
+        of.holders == 0
     }
 
     pub(crate) fn forget(&mut self, key: &[u8]) -> Result<Option<Id>, Busy> {
@@ -166,8 +161,7 @@ impl Handle {
         let (slot, at) = table.of(key);
         let mut shard = lock(&table.shards[at]);
         table.ages[slot].fetch_add(1, Release);
-        let closed = shard.close(key);
-        Ok(closed.map(|generation| Id { table: 0, cell: at as u32, generation }))
+        Ok(shard.close(key))
     }
 
     pub(crate) fn forget_call(&mut self, key: &[u8], of: &crate::Call) -> Result<bool, Busy> {
@@ -177,7 +171,7 @@ impl Handle {
         let table = self.table();
         let (crate::Call { id, stamp }, at) = (of, table.of(key).1);
         let mut shard = lock(&table.shards[at]);
-        if id.cell as usize == at && shard.open.get(key) == Some(&id.generation) {
+        if shard.open.get(key).is_some_and(|open| open.id == *id) {
             shard.close(key);
             return Ok(true);
         }
