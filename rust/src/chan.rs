@@ -18,6 +18,9 @@ use std::time::{Duration, Instant};
 #[must_use = "a job that is dropped ends its call without a value"]
 pub struct Job<'a, T>(Leader<'a, T>);
 
+/// A receiver, and the job that loads for it, unless that is run elsewhere.
+pub(crate) type Subscribed<'a, T> = (Receiver<T>, Option<Job<'a, T>>);
+
 /// A caller that the job has, or has borrowed.
 pub(crate) enum Leader<'a, T> {
     Own(Caller<T>),
@@ -42,10 +45,7 @@ impl<T> Leader<'_, T> {
 
 impl<'a, T> Job<'a, T> {
     /// The leader has asked, and has joined that call, or has to load.
-    pub(crate) fn new(
-        mut leader: Leader<'a, T>,
-        join: Option<Join>,
-    ) -> (Receiver<T>, Option<Self>) {
+    pub(crate) fn new(mut leader: Leader<'a, T>, join: Option<Join>) -> Subscribed<'a, T> {
         let Caller { shared, asker } = leader.caller();
         if let Some(join) = join {
             return (Receiver(Some(Ticket::new(shared.clone(), join))), None);
@@ -126,6 +126,8 @@ impl<T> fmt::Debug for Job<'_, T> {
     }
 }
 
+type Waiting<T> = Ticket<T, Arc<Shared<T>>>;
+
 /// Receives the value of a call, once: in a thread with [`Receiver::recv`], in a task with
 /// `.await`. It has no load of its own. If its call ends without a value, it returns an error, and
 /// the program can subscribe again. A receiver that is dropped leaves its call.
@@ -143,7 +145,7 @@ impl<T> fmt::Debug for Job<'_, T> {
 #[must_use = "a receiver that is dropped leaves its call"]
 pub struct Receiver<T>(
     // None once the value was taken.
-    Option<Ticket<T, Arc<Shared<T>>>>,
+    Option<Waiting<T>>,
 );
 
 impl<T> Receiver<T> {
@@ -161,10 +163,8 @@ impl<T> Receiver<T> {
     /// assert_eq!(*receiver.try_recv().unwrap().value, 7);
     /// ```
     pub fn try_recv(&mut self) -> Result<Loaded<T>, TryRecvError> {
-        if self.0.as_ref().is_some_and(|ticket| !ticket.is_told()) {
-            return Err(TryRecvError::Empty);
-        }
-        self.read().ok_or(TryRecvError::Disconnected)
+        let got = self.receive(|ticket| ticket.is_told()).ok_or(TryRecvError::Empty)?;
+        got.ok_or(TryRecvError::Disconnected)
     }
 
     /// Blocks until the call has ended, and returns its value.
@@ -179,8 +179,7 @@ impl<T> Receiver<T> {
     /// assert!(receiver.recv().is_err());
     /// ```
     pub fn recv(&mut self) -> Result<Loaded<T>, RecvError> {
-        self.wait(None);
-        self.read().ok_or(RecvError)
+        self.receive(|ticket| ticket.wait(None)).flatten().ok_or(RecvError)
     }
 
     /// Blocks until the call has ended, but no longer than the timeout, and returns its value.
@@ -198,18 +197,18 @@ impl<T> Receiver<T> {
     /// # drop(job);
     /// ```
     pub fn recv_timeout(&mut self, timeout: Duration) -> Result<Loaded<T>, RecvTimeoutError> {
-        if !self.wait(Instant::now().checked_add(timeout)) {
-            return Err(RecvTimeoutError::Timeout);
-        }
-        self.read().ok_or(RecvTimeoutError::Disconnected)
+        let deadline = Instant::now().checked_add(timeout);
+        let got = self.receive(|ticket| ticket.wait(deadline)).ok_or(RecvTimeoutError::Timeout)?;
+        got.ok_or(RecvTimeoutError::Disconnected)
     }
 
-    fn wait(&self, deadline: Option<Instant>) -> bool {
-        self.0.as_ref().is_none_or(|ticket| ticket.wait(deadline))
-    }
-
-    fn read(&mut self) -> Option<Loaded<T>> {
-        self.0.take()?.read()
+    /// What the call came to, if it is told, by the ticket: none where it ended without a value, or the
+    /// value was taken before.
+    fn receive(
+        &mut self,
+        is_told: impl FnOnce(&mut Waiting<T>) -> bool,
+    ) -> Option<Option<Loaded<T>>> {
+        self.0.as_mut().is_none_or(is_told).then(|| self.0.take()?.read())
     }
 }
 
@@ -217,10 +216,10 @@ impl<T> Future for Receiver<T> {
     type Output = Result<Loaded<T>, RecvError>;
 
     fn poll(mut self: Pin<&mut Self>, context: &mut Context<'_>) -> Poll<Self::Output> {
-        if self.0.as_mut().is_some_and(|ticket| ticket.poll(context.waker()).is_pending()) {
-            return Poll::Pending;
+        match self.receive(|ticket| ticket.poll(context.waker()).is_ready()) {
+            Some(got) => Poll::Ready(got.ok_or(RecvError)),
+            None => Poll::Pending,
         }
-        Poll::Ready(self.read().ok_or(RecvError))
     }
 }
 

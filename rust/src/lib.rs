@@ -124,8 +124,8 @@ pub use cache::{
     Cache, CacheBuilder, CacheStats, Fetched, LoadError, Reason, Recorder, WriteToken,
 };
 pub use caller::Caller;
-use chan::Leader;
 pub use chan::{Job, Receiver};
+use chan::{Leader, Subscribed};
 use places::until;
 pub use recording::{RecordError, Recorded, Recording};
 use shared::{Crowded, Shared};
@@ -298,10 +298,6 @@ pub struct Stamp {
 impl Stamp {
     /// A table that there is not.
     const NONE: Stamp = Stamp { table: u64::MAX, slot: 0, age: 0 };
-
-    fn is_none(&self) -> bool {
-        self.table == Self::NONE.table
-    }
 }
 
 impl Default for Stamp {
@@ -504,11 +500,9 @@ impl<T: Send + Sync> Group<T> {
     }
 
     /// As `subscribe`, where it would not wait for others to leave the call.
-    pub(crate) fn try_subscribe<'a>(
-        &self,
-        key: impl AsRef<[u8]>,
-    ) -> Result<(Receiver<T>, Option<Job<'a, T>>), Crowded>
+    pub(crate) fn try_subscribe<'a, K>(&self, key: K) -> Result<Subscribed<'a, T>, Crowded>
     where
+        K: AsRef<[u8]>,
         T: 'a,
     {
         let mut caller = self.caller();

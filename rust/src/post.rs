@@ -15,7 +15,7 @@ use std::ops::Deref;
 use std::panic::{catch_unwind, AssertUnwindSafe};
 use std::sync::{Arc, Condvar, Mutex, OnceLock};
 use std::task::{Poll, Waker};
-use std::time::Instant;
+use std::time::{Duration, Instant};
 
 /// What those who joined a call are told.
 pub(crate) struct Told<T> {
@@ -139,12 +139,12 @@ impl<T, P: Deref<Target = Shared<T>>> Ticket<T, P> {
         }
         let mut waits = lock(lock_of_waits);
         while told.get().is_none() {
-            let time = deadline.map(|deadline| deadline.checked_duration_since(instant()));
-            if time == Some(None) {
+            let time = deadline.map_or(Duration::MAX, |it| it.saturating_duration_since(instant()));
+            if time.is_zero() {
                 return false;
             }
             waits.has_sleepers = true;
-            waits = sleep(settled, lock_of_waits, waits, time.flatten());
+            waits = sleep(settled, lock_of_waits, waits, time);
         }
         true
     }

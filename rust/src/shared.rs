@@ -211,10 +211,6 @@ impl<T> Shared<T> {
 
     /// Forgets this call of the key.
     pub(crate) fn forget_call(&self, key: &[u8], call: Call) -> ForgetOutcome {
-        if call.stamp.is_none() {
-            // It was forgotten before it was settled.
-            return ForgetOutcome::Missed;
-        }
         let noted = self.recordings.noted();
         let found = until(|| {
             at("before forget");
@@ -242,7 +238,7 @@ impl<T> Shared<T> {
     #[inline]
     pub(crate) fn is_current(&self, stamp: Stamp) -> bool {
         point();
-        !stamp.is_none() && self.places.with(|seat| seat.handle.is_still(&stamp))
+        self.places.with(|seat| seat.handle.is_still(&stamp))
     }
 }
 
