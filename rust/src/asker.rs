@@ -3,7 +3,7 @@
 use crate::keyed;
 use crate::post::{Post, Ticket};
 use crate::recording::{CallRecord, ValueRecord};
-use crate::shared::{Crowded, Shared};
+use crate::shared::Shared;
 use crate::sync::{instant, pause};
 use crate::{Call, Loaded, Stamp};
 use std::future::{poll_fn, Future};
@@ -100,15 +100,15 @@ impl<T> Asker<T> {
     ) -> Option<Loaded<T>> {
         let mut tries = 0;
         loop {
-            let ticket = match shared.ask(key, self) {
-                Ok(None) => return Some(self.run(shared, load)),
-                Ok(Some(join)) => Ticket::new(shared, join),
-                Err(Crowded) if deadline.is_none_or(|deadline| instant() < deadline) => {
-                    pause(&mut tries);
-                    continue;
+            let Ok(join) = shared.ask(key, self) else {
+                if deadline.is_some_and(|deadline| instant() >= deadline) {
+                    break;
                 }
-                Err(Crowded) => break,
+                pause(&mut tries);
+                continue;
             };
+            let Some(join) = join else { return Some(self.run(shared, load)) };
+            let ticket = Ticket::new(shared, join);
             if !ticket.wait(deadline) {
                 break;
             }
@@ -137,14 +137,11 @@ impl<T> Asker<T> {
         load: impl FnOnce(Leads) -> F,
     ) -> Loaded<T> {
         loop {
-            let join = match shared.ask(key, self) {
-                Ok(None) => return self.run_async(shared, load).await,
-                Ok(Some(join)) => join,
-                Err(Crowded) => {
-                    yield_now().await;
-                    continue;
-                }
+            let Ok(join) = shared.ask(key, self) else {
+                yield_now().await;
+                continue;
             };
+            let Some(join) = join else { return self.run_async(shared, load).await };
             let mut ticket = Ticket::new(shared, join);
             let before = self.last.take();
             // Where it is dropped here it has left the call.

@@ -7,10 +7,8 @@ use crate::Stats;
 use std::cell::UnsafeCell;
 use std::num::NonZero;
 use std::ops::{Deref, DerefMut};
-use std::sync::atomic::{
-    AtomicUsize,
-    Ordering::{Acquire, Relaxed, Release, SeqCst},
-};
+use std::sync::atomic::AtomicUsize;
+use std::sync::atomic::Ordering::{Acquire, Relaxed, Release, SeqCst};
 use std::sync::OnceLock;
 
 /// Within these bounds a group has a place for each processor: also with few processors several

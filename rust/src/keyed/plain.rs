@@ -7,11 +7,9 @@ use crate::{Error, Stamp};
 use std::collections::hash_map::RandomState;
 use std::collections::HashMap;
 use std::hash::BuildHasher;
-use std::sync::atomic::{
-    AtomicU64,
-    Ordering::{Acquire, Release},
-};
-use std::sync::{Arc, Mutex};
+use std::sync::atomic::AtomicU64;
+use std::sync::atomic::Ordering::{Acquire, Release};
+use std::sync::{Arc, Mutex, MutexGuard};
 
 const SHARDS: usize = 16;
 /// A call can be held so often; in the schedule test by few, so that it plays what comes then.
@@ -25,7 +23,6 @@ const MOST_AGES: usize = 1 << 20;
 
 /// A call that is open or held.
 struct Open {
-    /// The shard is its cell.
     id: Id,
     key: Arc<[u8]>,
     /// Changed with the lock of its shard held, but for those who leave.
@@ -58,10 +55,14 @@ impl Shard {
 }
 
 impl Table {
-    /// The number of the key's age, and its shard, which is the same for all keys of that age.
-    fn of(&self, key: &[u8]) -> (usize, usize) {
+    /// Locks the key's shard, and returns it beside the number of the key's age, which is the cell of its
+    /// calls too. All keys of an age have one shard. It is busy in the schedule test alone, sometimes.
+    fn shard(&self, key: &[u8]) -> Result<(usize, MutexGuard<'_, Shard>), Busy> {
+        if is_unlucky() {
+            return Err(Busy);
+        }
         let slot = self.hash.hash_one(key) as usize & (self.ages.len() - 1);
-        (slot, slot % SHARDS)
+        Ok((slot, lock(&self.shards[slot % SHARDS])))
     }
 }
 
@@ -101,12 +102,8 @@ impl Handle {
 
     pub(crate) fn ask(&mut self, call: &mut Call, key: &[u8], name: &mut crate::Call) -> Asked {
         assert!(call.0.is_none(), "an idle call");
-        if is_unlucky() {
-            return Asked::Busy;
-        }
         let table = self.table();
-        let (slot, at) = table.of(key);
-        let mut shard = lock(&table.shards[at]);
+        let Ok((slot, mut shard)) = table.shard(key) else { return Asked::Busy };
         let (asked, open) = if let Some(open) = shard.open.get(key) {
             let mut of = lock(&open.of);
             if of.holders == HOLDERS {
@@ -117,7 +114,7 @@ impl Handle {
             (Asked::Joined, open.clone())
         } else {
             shard.generation += 1;
-            let id = Id { table: 0, cell: at as u32, generation: shard.generation };
+            let id = Id { table: 0, cell: slot as u32, generation: shard.generation };
             let of = Mutex::new(Audience { holders: 1, ..Audience::default() });
             let open = Arc::new(Open { id, key: key.into(), of });
             shard.open.insert(open.key.clone(), open.clone());
@@ -132,7 +129,7 @@ impl Handle {
 
     pub(crate) fn settle(&mut self, call: &mut Call) -> Option<Audience> {
         let open = call.0.as_ref().expect("a call that is led");
-        let mut shard = lock(&self.table().shards[open.id.cell as usize]);
+        let mut shard = lock(&self.table().shards[open.id.cell as usize % SHARDS]);
         let audience = *lock(&open.of);
         // A Forget may have closed it, and a newer one be open.
         if !audience.forgotten {
@@ -154,23 +151,15 @@ impl Handle {
     }
 
     pub(crate) fn forget(&mut self, key: &[u8]) -> Result<Option<Id>, Busy> {
-        if is_unlucky() {
-            return Err(Busy);
-        }
         let table = self.table();
-        let (slot, at) = table.of(key);
-        let mut shard = lock(&table.shards[at]);
+        let (slot, mut shard) = table.shard(key)?;
         table.ages[slot].fetch_add(1, Release);
         Ok(shard.close(key))
     }
 
     pub(crate) fn forget_call(&mut self, key: &[u8], of: &crate::Call) -> Result<bool, Busy> {
-        if is_unlucky() {
-            return Err(Busy);
-        }
-        let table = self.table();
-        let (crate::Call { id, stamp }, at) = (of, table.of(key).1);
-        let mut shard = lock(&table.shards[at]);
+        let crate::Call { id, stamp } = of;
+        let (_, mut shard) = self.table().shard(key)?;
         if shard.open.get(key).is_some_and(|open| open.id == *id) {
             shard.close(key);
             return Ok(true);
