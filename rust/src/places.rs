@@ -1,7 +1,7 @@
 //! Handles of the keyed group near each thread, with what its calls need beside them: so that
 //! threads share no lock.
 
-use crate::keyed::{Audience, Call, Handle};
+use crate::keyed::{Call, Handle};
 use crate::sync::{pause, point};
 use crate::Stats;
 use std::cell::UnsafeCell;
@@ -36,35 +36,18 @@ const HOLDS: usize = 2;
 #[derive(Default)]
 pub(crate) struct Seat {
     pub(crate) handle: Handle,
-    idle: Vec<Call>,
+    pub(crate) idle: Vec<Call>,
     /// What was done by this handle.
     pub(crate) loads: u64,
     pub(crate) joins: u64,
     pub(crate) forgets: u64,
-    settles: u64,
+    pub(crate) settles: u64,
     /// Gets of a cache, by this handle.
     pub(crate) hits: u64,
     pub(crate) misses: u64,
 }
 
 impl Seat {
-    /// An idle call. None where there is no memory for one.
-    #[inline]
-    pub(crate) fn take(&mut self) -> Option<Call> {
-        self.idle.pop().or_else(|| self.handle.make())
-    }
-
-    /// Settles the call that is led, if one is. None where nobody is told, and it is idle again.
-    #[inline]
-    pub(crate) fn settle(&mut self, lead: &mut Option<Call>) -> Option<Audience> {
-        let audience = self.handle.settle(lead.as_mut()?);
-        self.settles += 1;
-        if audience.is_none() {
-            self.put(lead.take());
-        }
-        audience
-    }
-
     /// The call is idle again.
     #[inline]
     pub(crate) fn put(&mut self, call: Option<Call>) {

@@ -64,41 +64,38 @@ impl<T> Shared<T> {
         let mut tries = 0;
         loop {
             at("before ask");
-            let mut is_early = false;
             let locked = noted.as_ref().and_then(|noted| noted.locks(key));
             let asked = self.places.with(|seat| {
-                asker.lead = seat.take();
+                // Where there is no memory for an idle call it loads for itself alone.
+                asker.lead = seat.idle.pop().or_else(|| seat.handle.make());
                 let asked = seat.handle.ask(asker.lead.as_mut()?, key, &mut asker.name);
                 match asked {
-                    Asked::Led => {
-                        seat.loads += 1;
-                        is_early = seat.loads % EARLY == 0;
-                    }
+                    Asked::Led => seat.loads += 1,
                     Asked::Joined => seat.joins += 1,
                     _ => seat.put(asker.lead.take()),
                 }
-                Some(asked)
+                Some((asked, seat.loads))
             });
-            let locked = locked.filter(|_| matches!(asked, Some(Asked::Led)));
+            let locked = locked.filter(|_| matches!(asked, Some((Asked::Led, _))));
             asker.value = locked.and_then(|locked| locked.leads(asker.name.id));
             match asked {
-                Some(Asked::Led) => {
+                Some((Asked::Led, loads)) => {
                     at("asked");
                     asker.record = noted.and_then(|noted| noted.record(key, asker.name.id));
-                    if is_early {
+                    if loads % EARLY == 0 {
                         self.grow(true);
                     }
                     return Ok(None);
                 }
-                Some(Asked::Joined) => {
+                Some((Asked::Joined, _)) => {
                     at("asked");
                     let call = asker.lead.take().expect("the call that has joined");
                     return Ok(Some(Join { call, id: asker.name.id, noted }));
                 }
-                Some(Asked::Crowded) => return Err(Crowded),
-                Some(Asked::Busy) => pause(&mut tries),
-                Some(Asked::Full) if self.grow(false) => pause(&mut tries),
-                Some(Asked::Full) | None => {
+                Some((Asked::Crowded, _)) => return Err(Crowded),
+                Some((Asked::Busy, _)) => pause(&mut tries),
+                Some((Asked::Full, _)) if self.grow(false) => pause(&mut tries),
+                Some((Asked::Full, _)) | None => {
                     asker.name = Call::NONE;
                     return Ok(None);
                 }
@@ -128,7 +125,14 @@ impl<T> Shared<T> {
         let (record, value) = (asker.record.take(), asker.value.take());
         record.iter().for_each(|record| record.ends(got.is_some()));
         value.iter().for_each(|value| value.ends(got.is_some()));
-        let audience = self.places.with(|seat| seat.settle(&mut asker.lead));
+        let audience = self.places.with(|seat| {
+            let audience = seat.handle.settle(asker.lead.as_mut()?);
+            seat.settles += 1;
+            if audience.is_none() {
+                seat.put(asker.lead.take());
+            }
+            audience
+        });
         let was_forgotten = audience.is_some_and(|audience| audience.forgotten);
         record.iter().for_each(|record| record.settled(was_forgotten));
         value.into_iter().for_each(|value| value.settled(was_forgotten));
