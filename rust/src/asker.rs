@@ -5,11 +5,11 @@ use crate::post::{Post, Ticket};
 use crate::recording::{CallRecord, ValueRecord};
 use crate::shared::Shared;
 use crate::sync::{instant, pause};
-use crate::{Call, Loaded, Stamp};
+use crate::{Call, Error, Loaded, Stamp};
 use std::future::{poll_fn, Future};
 use std::sync::Arc;
 use std::task::Poll;
-use std::time::Instant;
+use std::time::{Duration, Instant};
 
 /// One who asks, in one thread or task at a time: a caller of the user, or for one call of a group.
 pub(crate) struct Asker<T> {
@@ -44,9 +44,7 @@ impl<T> Load<'_, T> {
     /// It begins, and is told this.
     #[inline]
     fn begins(&self) -> Leads {
-        if let Some(record) = &self.0.record {
-            record.leads();
-        }
+        self.0.record.iter().for_each(|record| record.leads());
         Leads { stamp: self.0.name.stamp, record: self.0.value.clone() }
     }
 
@@ -88,37 +86,38 @@ impl<T> Asker<T> {
         shared.settle(self, None);
     }
 
-    /// Gets the key, by the load or from a call of another: none where that takes longer than until
-    /// the deadline.
+    /// Gets the key, by the load or from a call of another, unless that takes longer than the timeout.
     #[inline]
     pub(crate) fn get(
         &mut self,
         shared: &Shared<T>,
         key: &[u8],
-        deadline: Option<Instant>,
+        timeout: Option<Duration>,
         load: impl FnOnce(Leads) -> T,
-    ) -> Option<Loaded<T>> {
+    ) -> Result<Loaded<T>, Error> {
+        let deadline = timeout.and_then(|timeout| Instant::now().checked_add(timeout));
         let mut tries = 0;
         loop {
             let Ok(join) = shared.ask(key, self) else {
+                // It is `Crowded`.
                 if deadline.is_some_and(|deadline| instant() >= deadline) {
                     break;
                 }
                 pause(&mut tries);
                 continue;
             };
-            let Some(join) = join else { return Some(self.run(shared, load)) };
+            let Some(join) = join else { return Ok(self.run(shared, load)) };
             let ticket = Ticket::new(shared, join);
             if !ticket.wait(deadline) {
                 break;
             }
             if let Some(got) = ticket.read() {
                 self.last = Some(got.stamp());
-                return Some(got);
+                return Ok(got);
             }
         }
         self.last = None;
-        None
+        Err(Error::TimedOut)
     }
 
     /// Runs the load that it has to run.

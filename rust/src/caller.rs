@@ -8,7 +8,7 @@ use crate::{Call, Error, ForgetOutcome, Job, Loaded, Receiver, Stamp};
 use std::fmt;
 use std::future::Future;
 use std::sync::Arc;
-use std::time::{Duration, Instant};
+use std::time::Duration;
 
 /// A caller of a group, for one thread or task at a time. [`Group::caller`](crate::Group::caller)
 /// returns one.
@@ -84,9 +84,7 @@ impl<T: Send + Sync> Caller<T> {
         timeout: Duration,
         load: impl FnOnce() -> T,
     ) -> Result<Loaded<T>, Error> {
-        let deadline = Instant::now().checked_add(timeout);
-        let got = self.asker.get(&self.shared, key.as_ref(), deadline, |_| load());
-        got.ok_or(Error::TimedOut)
+        self.asker.get(&self.shared, key.as_ref(), Some(timeout), |_| load())
     }
 
     /// Returns the value of the key in a task, as

@@ -132,7 +132,7 @@ use shared::{Crowded, Shared};
 use std::fmt;
 use std::future::Future;
 use std::sync::Arc;
-use std::time::{Duration, Instant};
+use std::time::Duration;
 
 /// For how many concurrent loads a new group has room, and for how many it can have at first.
 const LOADS: u32 = 64;
@@ -440,9 +440,7 @@ impl<T: Send + Sync> Group<T> {
         timeout: Duration,
         load: impl FnOnce() -> T,
     ) -> Result<Loaded<T>, Error> {
-        let deadline = Instant::now().checked_add(timeout);
-        let got = Asker::new().get(&self.shared, key.as_ref(), deadline, |_| load());
-        got.ok_or(Error::TimedOut)
+        Asker::new().get(&self.shared, key.as_ref(), Some(timeout), |_| load())
     }
 
     /// Returns the value of the key in a task: from the key's open call, or by awaiting `load`. The

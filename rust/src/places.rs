@@ -183,14 +183,8 @@ impl Places {
     #[inline]
     pub(crate) fn pin(&self, address: usize) -> Option<Taken<'_>> {
         let own = thread_number() & (self.0.len() - 1);
-        let taken = match self.0[own].try_take(address) {
-            Some(taken) => taken,
-            None => self.elsewhere(own, address)?,
-        };
-        match taken.handle.is_open() {
-            true => Some(taken),
-            false => Some(self.opened(taken, address)),
-        }
+        let taken = self.0[own].try_take(address).or_else(|| self.elsewhere(own, address))?;
+        Some(if taken.handle.is_open() { taken } else { self.opened(taken, address) })
     }
 
     #[cold]
@@ -206,13 +200,9 @@ impl Places {
     fn opened<'a>(&'a self, mut seat: Taken<'a>, address: usize) -> Taken<'a> {
         // Whoever has the first place waits for no other.
         let mut first = until(|| self.0[0].try_take(address));
-        match first.handle.split() {
-            None => first,
-            Some(handle) => {
-                seat.handle = handle;
-                seat
-            }
-        }
+        let Some(handle) = first.handle.split() else { return first };
+        seat.handle = handle;
+        seat
     }
 
     /// Whether somebody may read what is at the address, which nobody can find any more.

@@ -19,7 +19,7 @@ use crate::asker::Asker;
 use crate::keyed::{self, Asked, Audience, Handle, Id};
 use crate::places::{until, Places};
 use crate::post::{Posts, Told};
-use crate::recording::{CallRecord, Noted, Recordings};
+use crate::recording::{Noted, Recordings};
 use crate::sync::{at, pause, point};
 use crate::{Call, Error, ForgetOutcome, Loaded, Stamp};
 use std::sync::{Arc, Mutex};
@@ -122,8 +122,8 @@ impl<T> Shared<T> {
     #[inline]
     pub(crate) fn settle(&self, asker: &mut Asker<T>, mut got: Option<&mut Loaded<T>>) {
         at("before settle");
-        let (record, value) = (asker.record.take(), asker.value.take());
-        record.iter().for_each(|record| record.ends(got.is_some()));
+        let value = asker.value.take();
+        asker.record.iter().for_each(|record| record.ends(got.is_some()));
         value.iter().for_each(|value| value.ends(got.is_some()));
         let audience = self.places.with(|seat| {
             let audience = seat.handle.settle(asker.lead.as_mut()?);
@@ -134,11 +134,12 @@ impl<T> Shared<T> {
             audience
         });
         let was_forgotten = audience.is_some_and(|audience| audience.forgotten);
-        record.iter().for_each(|record| record.settled(was_forgotten));
+        asker.record.iter().for_each(|record| record.settled(was_forgotten));
         value.into_iter().for_each(|value| value.settled(was_forgotten));
-        if let (Some(audience), Some(call)) = (audience, asker.lead.take()) {
-            self.tell(&audience, call, &asker.name.id, got.as_deref_mut(), record);
+        if let Some(audience) = audience {
+            self.tell(asker, audience, got.as_deref_mut());
         }
+        asker.record = None;
         if let Some(own) = asker.own.take() {
             own.tell(Told { got: got.cloned(), record: None }).wake();
         }
@@ -147,14 +148,9 @@ impl<T> Shared<T> {
     /// The call is settled, and held: tells who joined it, and leaves it.
     #[cold]
     #[inline(never)]
-    fn tell(
-        &self,
-        audience: &Audience,
-        call: keyed::Call,
-        id: &Id,
-        mut got: Option<&mut Loaded<T>>,
-        record: Option<Arc<CallRecord>>,
-    ) {
+    fn tell(&self, asker: &mut Asker<T>, audience: Audience, mut got: Option<&mut Loaded<T>>) {
+        let call = asker.lead.take().expect("the call that is held");
+        let (id, record) = (&asker.name.id, &asker.record);
         if let Some(got) = &mut got {
             // One that has left had joined too.
             let others = audience.holders.saturating_sub(1).max(audience.joined.into());

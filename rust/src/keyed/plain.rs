@@ -76,11 +76,9 @@ impl Handle {
     pub(crate) fn open(cells: u32) -> Result<Self, Error> {
         let ages = cells as usize * AGES_OF_CELL;
         let ages = (1 << ages.ilog2()).clamp(FEWEST_AGES, MOST_AGES);
-        Ok(Handle(Some(Arc::new(Table {
-            hash: RandomState::new(),
-            shards: Default::default(),
-            ages: (0..ages).map(|_| AtomicU64::new(0)).collect(),
-        }))))
+        let ages = (0..ages).map(|_| AtomicU64::new(0)).collect();
+        let table = Table { hash: RandomState::new(), shards: Default::default(), ages };
+        Ok(Handle(Some(Arc::new(table))))
     }
 
     #[inline]
