@@ -17,7 +17,7 @@
 
 use crate::asker::Asker;
 use crate::keyed::{self, Asked, Audience, Handle, Id};
-use crate::places::{until, Places};
+use crate::places::{until, Places, Seat};
 use crate::post::{Posts, Told};
 use crate::recording::{Noted, Recordings};
 use crate::sync::{at, pause, point};
@@ -188,16 +188,15 @@ impl<T> Shared<T> {
     /// Forgets the key: whether that ended an open call.
     pub(crate) fn forget(&self, key: &[u8]) -> bool {
         let noted = self.recordings.noted();
-        let (closed, locked) = until(|| {
-            at("before forget");
-            let locked = noted.as_ref().and_then(|noted| noted.locks(key));
-            let closed = self.places.with(|seat| {
-                let closed = seat.handle.forget(key).ok()?;
-                seat.forgets += 1;
-                Some(closed)
-            })?;
-            Some((closed, locked))
-        });
+        at("before forget");
+        // A key of a cache that is recorded is locked until it is forgotten.
+        let locked = noted.as_ref().and_then(|noted| noted.locks(key));
+        let forget_once = |seat: &mut Seat| {
+            let closed = seat.handle.forget(key).ok()?;
+            seat.forgets += 1;
+            Some(closed)
+        };
+        let closed = until(|| self.places.with(forget_once));
         let is_of_cache = locked.map(|locked| locked.forgot(closed)).is_some();
         at("forgotten");
         match (closed, noted) {
@@ -212,19 +211,18 @@ impl<T> Shared<T> {
     /// Forgets this call of the key.
     pub(crate) fn forget_call(&self, key: &[u8], call: Call) -> ForgetOutcome {
         let noted = self.recordings.noted();
-        let found = until(|| {
-            at("before forget");
-            self.places.with(|seat| {
-                let was_still = seat.handle.is_still(&call.stamp);
-                let was_open = seat.handle.forget_call(key, &call).ok()?;
-                seat.forgets += u64::from(was_open || was_still);
-                Some(match (was_open, was_still) {
-                    (true, _) => ForgetOutcome::Closed,
-                    (false, true) => ForgetOutcome::Cleared,
-                    (false, false) => ForgetOutcome::Missed,
-                })
+        at("before forget");
+        let forget_once = |seat: &mut Seat| {
+            let was_still = seat.handle.is_still(&call.stamp);
+            let was_open = seat.handle.forget_call(key, &call).ok()?;
+            seat.forgets += u64::from(was_open || was_still);
+            Some(match (was_open, was_still) {
+                (true, _) => ForgetOutcome::Closed,
+                (false, true) => ForgetOutcome::Cleared,
+                (false, false) => ForgetOutcome::Missed,
             })
-        });
+        };
+        let found = until(|| self.places.with(forget_once));
         at("forgotten");
         match (found, noted) {
             (ForgetOutcome::Closed, noted) => self.recordings.closed(noted, call.id, true),
