@@ -36,19 +36,19 @@ pub(crate) struct Leads {
     pub(crate) record: Option<Arc<ValueRecord>>,
 }
 
-/// The load that its asker runs. Where that ends without a value, as by a panic, the call is settled
-/// with nothing, so that each caller that joined asks again.
+/// The load that an asker runs. If it ends without a value, as by a panic, its call is settled with
+/// nothing, so that each caller that joined asks again.
 struct Load<'a, T>(&'a mut Asker<T>, &'a Shared<T>);
 
 impl<T> Load<'_, T> {
-    /// It begins, and is told this.
+    /// Begins the load: returns what it is told of its call.
     #[inline]
     fn begins(&self) -> Leads {
         self.0.record.iter().for_each(|record| record.leads());
         Leads { stamp: self.0.name.stamp, record: self.0.value.clone() }
     }
 
-    /// It has returned this.
+    /// Ends the load, which has returned this value.
     #[inline]
     fn ends(self, value: T) -> Loaded<T> {
         let value = Arc::new(value);

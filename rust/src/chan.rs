@@ -18,7 +18,7 @@ use std::time::{Duration, Instant};
 #[must_use = "a job that is dropped ends its call without a value"]
 pub struct Job<'a, T>(Leader<'a, T>);
 
-/// A receiver, and the job that loads for it, unless that is run elsewhere.
+/// A receiver, and the job of its load, if the caller leads the call.
 pub(crate) type Subscribed<'a, T> = (Receiver<T>, Option<Job<'a, T>>);
 
 /// A caller that the job has, or has borrowed.
@@ -44,7 +44,7 @@ impl<T> Leader<'_, T> {
 }
 
 impl<'a, T> Job<'a, T> {
-    /// The leader has asked, and has joined that call, or has to load.
+    /// Makes both after the leader has asked: it has joined that call, or has to load.
     pub(crate) fn new(mut leader: Leader<'a, T>, join: Option<Join>) -> Subscribed<'a, T> {
         let Caller { shared, asker } = leader.caller();
         if let Some(join) = join {
@@ -202,8 +202,8 @@ impl<T> Receiver<T> {
         got.ok_or(RecvTimeoutError::Disconnected)
     }
 
-    /// What the call came to, if it is told, by the ticket: none where it ended without a value, or the
-    /// value was taken before.
+    /// Takes what the call came to, if the ticket says that it is told. That is `Some(None)` if the call
+    /// ended without a value, or the value was taken before.
     fn receive(
         &mut self,
         is_told: impl FnOnce(&mut Waiting<T>) -> bool,

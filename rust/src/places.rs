@@ -148,7 +148,7 @@ impl Drop for Taken<'_> {
 /// is always open, and the others are split off from it.
 pub(crate) struct Places(Box<[Place]>);
 
-/// Tries until there is something.
+/// Tries until there is a result, and lets others go on between two tries.
 #[inline]
 pub(crate) fn until<R>(mut try_once: impl FnMut() -> Option<R>) -> R {
     let mut tries = 0;

@@ -391,8 +391,8 @@ impl Noted {
         self.by.recorder.push(Entry::Forget(forget));
     }
 
-    /// This Forget has cleared the call, which had ended: that is recorded, once, if the call is known as the
-    /// last one of its key.
+    /// This Forget has cleared the call, which had ended: that is recorded, once, if the call is known
+    /// as the last one of its key.
     #[cold]
     pub(crate) fn cleared(self, key: &[u8], id: Id) {
         let recorder = &self.by.recorder;

@@ -103,9 +103,9 @@ impl<T> Shared<T> {
         }
     }
 
-    /// Makes room for more open calls, unless another thread does. False where there can be none. It
-    /// may take long, and holds up nobody meanwhile. Where it is early, it does so if half of the room
-    /// is taken, which it may know late: then a caller finds no room.
+    /// Makes room for more open calls, unless another thread does. Returns false if there can be no
+    /// more. It may take long, and holds up nobody meanwhile. If it is early, it does so only where half
+    /// of the room is taken. It may know that late: then a caller finds no room.
     #[cold]
     fn grow(&self, is_early: bool) -> bool {
         let Ok(mut grower) = self.grower.try_lock() else { return true };
@@ -116,9 +116,9 @@ impl<T> Shared<T> {
         grower.grow()
     }
 
-    /// Settles the call that is led, if one is, with what its load came to, or without a value. How
-    /// many have joined is written, and that a forgotten value has no stamp. Tells the receiver of its
-    /// job, if there is one.
+    /// Settles the call that is led, if one is, with what its load came to, or without a value, and
+    /// tells the receiver of its job, if there is one. Writes how many have joined, and takes the stamp
+    /// from a value that was forgotten.
     #[inline]
     pub(crate) fn settle(&self, asker: &mut Asker<T>, mut got: Option<&mut Loaded<T>>) {
         at("before settle");

@@ -30,7 +30,7 @@ pub(crate) struct Handle {
     live: bool,
 }
 
-/// One asking at a time: idle, leading, or holding. Any thread may use it, as a handle.
+/// One asking at a time: idle, leading, or holding. Any thread may use it, one at a time.
 #[derive(Default)]
 #[repr(C)]
 pub(crate) struct Call {

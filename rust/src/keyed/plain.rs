@@ -25,7 +25,7 @@ const MOST_AGES: usize = 1 << 20;
 struct Open {
     id: Id,
     key: Arc<[u8]>,
-    /// Changed with the lock of its shard held, but for those who leave.
+    /// Written with the shard's lock held, except by callers that leave.
     of: Mutex<Audience>,
 }
 
