@@ -152,7 +152,8 @@ impl<T, P: Deref<Target = Shared<T>>> Ticket<T, P> {
     /// Whether the call is told; else the task is woken when it is.
     pub(crate) fn poll(&mut self, waker: &Waker) -> Poll<()> {
         at("before sleep");
-        // A waker's code runs without the lock: it may ask the group itself.
+        // A waker's code runs without the lock: it may ask the group itself. So the clone is made before
+        // the lock is taken, and is dropped after it.
         let waker = waker.clone();
         let mut waits = lock(&self.post.waits);
         if self.post.told.get().is_some() {
