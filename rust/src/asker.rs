@@ -1,15 +1,15 @@
 //! How one asks: leading and loading, or joining and waiting.
 
 use crate::keyed;
-use crate::post::{Post, Ticket, Told};
+use crate::post::{Post, Ticket};
 use crate::recording::{CallRecord, ValueRecord};
-use crate::shared::{Crowded, Join, Shared};
+use crate::shared::Shared;
 use crate::sync::{instant, pause};
-use crate::{Call, Loaded, Stamp};
+use crate::{Call, Error, Loaded, Stamp};
 use std::future::{poll_fn, Future};
 use std::sync::Arc;
 use std::task::Poll;
-use std::time::Instant;
+use std::time::{Duration, Instant};
 
 /// One who asks, in one thread or task at a time: a caller of the user, or for one call of a group.
 pub(crate) struct Asker<T> {
@@ -23,7 +23,7 @@ pub(crate) struct Asker<T> {
     pub(crate) value: Option<Arc<ValueRecord>>,
     // Where the receiver of a job waits for what it loads. It does not join the call in the library,
     // which would make the value a shared one.
-    own: Option<Arc<Post<T>>>,
+    pub(crate) own: Option<Arc<Post<T>>>,
     /// Of the answer that it got last.
     pub(crate) last: Option<Stamp>,
 }
@@ -36,28 +36,31 @@ pub(crate) struct Leads {
     pub(crate) record: Option<Arc<ValueRecord>>,
 }
 
-/// Ends the load that its asker runs. Where that ends without a value, as by a panic, the call is
-/// settled with nothing, so that each caller that joined asks again.
+/// The load that an asker runs. If it ends without a value, as by a panic, its call is settled with
+/// nothing, so that each caller that joined asks again.
 struct Load<'a, T>(&'a mut Asker<T>, &'a Shared<T>);
 
 impl<T> Load<'_, T> {
-    /// The load has returned this.
+    /// Begins the load: returns what it is told of its call.
     #[inline]
-    fn end(self, value: T) -> Loaded<T> {
-        let asker = &mut *self.0;
+    fn begins(&self) -> Leads {
+        self.0.record.iter().for_each(|record| record.leads());
+        Leads { stamp: self.0.name.stamp, record: self.0.value.clone() }
+    }
+
+    /// Ends the load, which has returned this value.
+    #[inline]
+    fn ends(self, value: T) -> Loaded<T> {
         let value = Arc::new(value);
-        let mut got = Loaded { value, joiners: 0, led: true, call: asker.name };
-        self.1.settle(asker, Some(&mut got));
-        asker.last = Some(got.stamp());
-        asker.tell_own(Some(&got));
-        std::mem::forget(self);
+        let mut got = Loaded { value, joiners: 0, led: true, call: self.0.name };
+        self.1.settle(self.0, Some(&mut got));
+        self.0.last = Some(got.stamp());
         got
     }
 }
 
 impl<T> Drop for Load<'_, T> {
     fn drop(&mut self) {
-        // The load has ended without a value.
         self.0.abandon(self.1);
     }
 }
@@ -66,46 +69,6 @@ impl<T> Asker<T> {
     #[inline]
     pub(crate) fn new() -> Self {
         Asker { lead: None, name: Call::NONE, record: None, value: None, own: None, last: None }
-    }
-
-    /// Asks for the key, again where its call is crowded. Returns the call that it has joined, or
-    /// none where it has to load; or that the call was crowded until the deadline.
-    #[inline]
-    pub(crate) fn ask(
-        &mut self,
-        shared: &Shared<T>,
-        key: &[u8],
-        deadline: Option<Instant>,
-    ) -> Result<Option<Join>, Crowded> {
-        let mut tries = 0;
-        loop {
-            match shared.ask(key, self) {
-                Err(Crowded) if deadline.is_none_or(|deadline| instant() < deadline) => {
-                    pause(&mut tries);
-                }
-                asked => return asked,
-            }
-        }
-    }
-
-    /// The load that it has to run, and what that is told.
-    #[inline]
-    fn load<'a>(&'a mut self, shared: &'a Shared<T>) -> (Load<'a, T>, Leads) {
-        if let Some(record) = &self.record {
-            record.leads();
-        }
-        let leads = Leads { stamp: self.name.stamp, record: self.value.clone() };
-        (Load(self, shared), leads)
-    }
-
-    /// Which call it leads.
-    pub(crate) fn call(&self) -> Option<Call> {
-        self.lead.as_ref().map(|_| self.name)
-    }
-
-    /// Where a receiver waits for what it loads, which is not counted as one who joined.
-    pub(crate) fn own(&mut self) -> Arc<Post<T>> {
-        self.own.insert(Arc::default()).clone()
     }
 
     /// Settles the call that it leads with nothing. Where its job or future was leaked, nobody can
@@ -121,50 +84,48 @@ impl<T> Asker<T> {
     #[inline(never)]
     fn abandon_load(&mut self, shared: &Shared<T>) {
         shared.settle(self, None);
-        self.tell_own(None);
     }
 
-    /// Tells the receiver of the job, if there is one.
-    #[inline]
-    fn tell_own(&mut self, got: Option<&Loaded<T>>) {
-        if let Some(own) = self.own.take() {
-            own.tell(Told::new(got, None)).wake();
-        }
-    }
-
-    /// Gets the key, by the load or from a call of another: none where that takes longer than until
-    /// the deadline.
+    /// Gets the key, by the load or from a call of another, unless that takes longer than the timeout.
     #[inline]
     pub(crate) fn get(
         &mut self,
         shared: &Shared<T>,
         key: &[u8],
-        deadline: Option<Instant>,
+        timeout: Option<Duration>,
         load: impl FnOnce(Leads) -> T,
-    ) -> Option<Loaded<T>> {
+    ) -> Result<Loaded<T>, Error> {
+        let deadline = timeout.and_then(|timeout| Instant::now().checked_add(timeout));
+        let mut tries = 0;
         loop {
-            let ticket = match self.ask(shared, key, deadline) {
-                Ok(None) => return Some(self.run(shared, load)),
-                Ok(Some(join)) => Some(Ticket::new(shared, join)),
-                Err(Crowded) => None,
+            let Ok(join) = shared.ask(key, self) else {
+                // It is `Crowded`.
+                if deadline.is_some_and(|deadline| instant() >= deadline) {
+                    break;
+                }
+                pause(&mut tries);
+                continue;
             };
-            let Some(ticket) = ticket.filter(|ticket| ticket.wait(deadline)) else {
-                self.last = None;
-                return None;
-            };
+            let Some(join) = join else { return Ok(self.run(shared, load)) };
+            let ticket = Ticket::new(shared, join);
+            if !ticket.wait(deadline) {
+                break;
+            }
             if let Some(got) = ticket.read() {
                 self.last = Some(got.stamp());
-                return Some(got);
+                return Ok(got);
             }
         }
+        self.last = None;
+        Err(Error::TimedOut)
     }
 
     /// Runs the load that it has to run.
     #[inline]
     pub(crate) fn run(&mut self, shared: &Shared<T>, load: impl FnOnce(Leads) -> T) -> Loaded<T> {
-        let (guard, leads) = self.load(shared);
-        let value = load(leads);
-        guard.end(value)
+        let running = Load(self, shared);
+        let value = load(running.begins());
+        running.ends(value)
     }
 
     /// Gets the key in a task, by the load or from a call of another.
@@ -175,14 +136,11 @@ impl<T> Asker<T> {
         load: impl FnOnce(Leads) -> F,
     ) -> Loaded<T> {
         loop {
-            let join = match shared.ask(key, self) {
-                Ok(None) => return self.run_async(shared, load).await,
-                Ok(Some(join)) => join,
-                Err(Crowded) => {
-                    yield_now().await;
-                    continue;
-                }
+            let Ok(join) = shared.ask(key, self) else {
+                yield_now().await;
+                continue;
             };
+            let Some(join) = join else { return self.run_async(shared, load).await };
             let mut ticket = Ticket::new(shared, join);
             let before = self.last.take();
             // Where it is dropped here it has left the call.
@@ -201,22 +159,19 @@ impl<T> Asker<T> {
         shared: &Shared<T>,
         load: impl FnOnce(Leads) -> F,
     ) -> Loaded<T> {
-        let (guard, leads) = self.load(shared);
+        let running = Load(self, shared);
         // The load is dropped here, before its call is settled: so it has ended when another begins.
-        let value = load(leads).await;
-        guard.end(value)
+        let value = load(running.begins()).await;
+        running.ends(value)
     }
 }
 
 // Is pending once, and wakes itself.
 async fn yield_now() {
-    let mut is_over = false;
+    let mut polls = [Poll::Pending, Poll::Ready(())].into_iter();
     poll_fn(|context| {
         context.waker().wake_by_ref();
-        match std::mem::replace(&mut is_over, true) {
-            true => Poll::Ready(()),
-            false => Poll::Pending,
-        }
+        polls.next().expect("nobody polls it again")
     })
     .await
 }

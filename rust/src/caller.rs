@@ -2,12 +2,13 @@
 
 use crate::asker::Asker;
 use crate::chan::Leader;
+use crate::places::until;
 use crate::shared::Shared;
 use crate::{Call, Error, ForgetOutcome, Job, Loaded, Receiver, Stamp};
 use std::fmt;
 use std::future::Future;
 use std::sync::Arc;
-use std::time::{Duration, Instant};
+use std::time::Duration;
 
 /// A caller of a group, for one thread or task at a time. [`Group::caller`](crate::Group::caller)
 /// returns one.
@@ -83,9 +84,7 @@ impl<T: Send + Sync> Caller<T> {
         timeout: Duration,
         load: impl FnOnce() -> T,
     ) -> Result<Loaded<T>, Error> {
-        let deadline = Instant::now().checked_add(timeout);
-        let got = self.asker.get(&self.shared, key.as_ref(), deadline, |_| load());
-        got.ok_or(Error::TimedOut)
+        self.asker.get(&self.shared, key.as_ref(), Some(timeout), |_| load())
     }
 
     /// Returns the value of the key in a task, as
@@ -132,7 +131,8 @@ impl<T: Send + Sync> Caller<T> {
     /// assert_eq!(waits.join().unwrap(), 7);
     /// ```
     pub fn subscribe(&mut self, key: impl AsRef<[u8]>) -> (Receiver<T>, Option<Job<'_, T>>) {
-        Job::subscribe(Leader::Lent(self), key.as_ref())
+        let join = until(|| self.shared.ask(key.as_ref(), &mut self.asker).ok());
+        Job::new(Leader::Lent(self), join)
     }
 
     /// Forgets the key, as [`Group::forget`](crate::Group::forget) does.

@@ -1,9 +1,9 @@
 //! Calls whose value comes to a receiver, and whose load is a job.
 
-use crate::asker::Leads;
+use crate::asker::{Asker, Leads};
 use crate::post::Ticket;
 use crate::recording::ValueRecord;
-use crate::shared::{Crowded, Join, Shared};
+use crate::shared::{Join, Shared};
 use crate::{Call, Caller, Loaded};
 use std::fmt;
 use std::future::Future;
@@ -18,6 +18,9 @@ use std::time::{Duration, Instant};
 #[must_use = "a job that is dropped ends its call without a value"]
 pub struct Job<'a, T>(Leader<'a, T>);
 
+/// A receiver, and the job of its load, if the caller leads the call.
+pub(crate) type Subscribed<'a, T> = (Receiver<T>, Option<Job<'a, T>>);
+
 /// A caller that the job has, or has borrowed.
 pub(crate) enum Leader<'a, T> {
     Own(Caller<T>),
@@ -25,6 +28,13 @@ pub(crate) enum Leader<'a, T> {
 }
 
 impl<T> Leader<'_, T> {
+    fn asker(&self) -> &Asker<T> {
+        match self {
+            Leader::Own(caller) => &caller.asker,
+            Leader::Lent(caller) => &caller.asker,
+        }
+    }
+
     fn caller(&mut self) -> &mut Caller<T> {
         match self {
             Leader::Own(caller) => caller,
@@ -34,30 +44,15 @@ impl<T> Leader<'_, T> {
 }
 
 impl<'a, T> Job<'a, T> {
-    pub(crate) fn subscribe(mut leader: Leader<'a, T>, key: &[u8]) -> (Receiver<T>, Option<Self>) {
-        let Caller { shared, asker } = leader.caller();
-        let asked = asker.ask(shared, key, None);
-        let join = asked.unwrap_or_else(|Crowded| unreachable!("there is no deadline"));
-        Self::asked(leader, join)
-    }
-
-    /// As `subscribe`, where it would not wait for others to leave the call.
-    pub(crate) fn try_subscribe(
-        mut leader: Leader<'a, T>,
-        key: &[u8],
-    ) -> Result<(Receiver<T>, Option<Self>), Crowded> {
-        let Caller { shared, asker } = leader.caller();
-        let join = shared.ask(key, asker)?;
-        Ok(Self::asked(leader, join))
-    }
-
-    /// It has asked, and has joined that call, or has to load.
-    fn asked(mut leader: Leader<'a, T>, join: Option<Join>) -> (Receiver<T>, Option<Self>) {
+    /// Makes both after the leader has asked: it has joined that call, or has to load.
+    pub(crate) fn new(mut leader: Leader<'a, T>, join: Option<Join>) -> Subscribed<'a, T> {
         let Caller { shared, asker } = leader.caller();
         if let Some(join) = join {
             return (Receiver(Some(Ticket::new(shared.clone(), join))), None);
         }
-        (Receiver(Some(Ticket::of(asker.own()))), Some(Job(leader)))
+        // It is not counted as one who joined.
+        let own = asker.own.insert(Arc::default()).clone();
+        (Receiver(Some(Ticket::of(own))), Some(Job(leader)))
     }
 
     /// Returns the call that the job leads, for [`Group::forget_call`](crate::Group::forget_call);
@@ -71,10 +66,8 @@ impl<'a, T> Job<'a, T> {
     /// assert_eq!(group.forget_call("key", call), ForgetOutcome::Closed);
     /// ```
     pub fn call(&self) -> Option<Call> {
-        match &self.0 {
-            Leader::Own(caller) => caller.asker.call(),
-            Leader::Lent(caller) => caller.asker.call(),
-        }
+        let asker = self.0.asker();
+        asker.lead.as_ref().map(|_| asker.name)
     }
 
     /// Runs the load, settles the call with its value, and returns that value.
@@ -97,10 +90,7 @@ impl<'a, T> Job<'a, T> {
 
     /// The record of the call, if it is one of a cache that is recorded.
     pub(crate) fn record(&self) -> Option<&Arc<ValueRecord>> {
-        match &self.0 {
-            Leader::Own(caller) => caller.asker.value.as_ref(),
-            Leader::Lent(caller) => caller.asker.value.as_ref(),
-        }
+        self.0.asker().value.as_ref()
     }
 
     /// Awaits the load, settles the call with its value, and returns that value. If the future is
@@ -136,6 +126,8 @@ impl<T> fmt::Debug for Job<'_, T> {
     }
 }
 
+type Waiting<T> = Ticket<T, Arc<Shared<T>>>;
+
 /// Receives the value of a call, once: in a thread with [`Receiver::recv`], in a task with
 /// `.await`. It has no load of its own. If its call ends without a value, it returns an error, and
 /// the program can subscribe again. A receiver that is dropped leaves its call.
@@ -153,7 +145,7 @@ impl<T> fmt::Debug for Job<'_, T> {
 #[must_use = "a receiver that is dropped leaves its call"]
 pub struct Receiver<T>(
     // None once the value was taken.
-    Option<Ticket<T, Arc<Shared<T>>>>,
+    Option<Waiting<T>>,
 );
 
 impl<T> Receiver<T> {
@@ -171,10 +163,8 @@ impl<T> Receiver<T> {
     /// assert_eq!(*receiver.try_recv().unwrap().value, 7);
     /// ```
     pub fn try_recv(&mut self) -> Result<Loaded<T>, TryRecvError> {
-        if self.0.as_ref().is_some_and(|ticket| !ticket.is_told()) {
-            return Err(TryRecvError::Empty);
-        }
-        self.read().ok_or(TryRecvError::Disconnected)
+        let got = self.receive(|ticket| ticket.is_told()).ok_or(TryRecvError::Empty)?;
+        got.ok_or(TryRecvError::Disconnected)
     }
 
     /// Blocks until the call has ended, and returns its value.
@@ -189,8 +179,7 @@ impl<T> Receiver<T> {
     /// assert!(receiver.recv().is_err());
     /// ```
     pub fn recv(&mut self) -> Result<Loaded<T>, RecvError> {
-        self.wait(None);
-        self.read().ok_or(RecvError)
+        self.receive(|ticket| ticket.wait(None)).flatten().ok_or(RecvError)
     }
 
     /// Blocks until the call has ended, but no longer than the timeout, and returns its value.
@@ -208,18 +197,18 @@ impl<T> Receiver<T> {
     /// # drop(job);
     /// ```
     pub fn recv_timeout(&mut self, timeout: Duration) -> Result<Loaded<T>, RecvTimeoutError> {
-        if !self.wait(Instant::now().checked_add(timeout)) {
-            return Err(RecvTimeoutError::Timeout);
-        }
-        self.read().ok_or(RecvTimeoutError::Disconnected)
+        let deadline = Instant::now().checked_add(timeout);
+        let got = self.receive(|ticket| ticket.wait(deadline)).ok_or(RecvTimeoutError::Timeout)?;
+        got.ok_or(RecvTimeoutError::Disconnected)
     }
 
-    fn wait(&self, deadline: Option<Instant>) -> bool {
-        self.0.as_ref().is_none_or(|ticket| ticket.wait(deadline))
-    }
-
-    fn read(&mut self) -> Option<Loaded<T>> {
-        self.0.take()?.read()
+    /// Takes what the call came to, if the ticket says that it is told. That is `Some(None)` if the call
+    /// ended without a value, or the value was taken before.
+    fn receive(
+        &mut self,
+        is_told: impl FnOnce(&mut Waiting<T>) -> bool,
+    ) -> Option<Option<Loaded<T>>> {
+        self.0.as_mut().is_none_or(is_told).then(|| self.0.take()?.read())
     }
 }
 
@@ -227,10 +216,10 @@ impl<T> Future for Receiver<T> {
     type Output = Result<Loaded<T>, RecvError>;
 
     fn poll(mut self: Pin<&mut Self>, context: &mut Context<'_>) -> Poll<Self::Output> {
-        if self.0.as_mut().is_some_and(|ticket| ticket.poll(context.waker()).is_pending()) {
-            return Poll::Pending;
+        match self.receive(|ticket| ticket.poll(context.waker()).is_ready()) {
+            Some(got) => Poll::Ready(got.ok_or(RecvError)),
+            None => Poll::Pending,
         }
-        Poll::Ready(self.read().ok_or(RecvError))
     }
 }
 

@@ -21,8 +21,10 @@ fn fold(a: u64, b: u64) -> u64 {
 }
 
 #[inline]
-fn word(bytes: &[u8], at: usize) -> u64 {
-    u64::from_le_bytes(bytes[at..at + 8].try_into().expect("eight bytes"))
+fn word<const LEN: usize>(bytes: &[u8], at: usize) -> u64 {
+    let mut word = [0; 8];
+    word[..LEN].copy_from_slice(&bytes[at..at + LEN]);
+    u64::from_le_bytes(word)
 }
 
 impl Fingerprints {
@@ -49,15 +51,15 @@ impl Hasher for Fingerprint<'_> {
     fn write(&mut self, key: &[u8]) {
         let (mut state, [_, second, third], len) = (self.state, self.seeds, key.len());
         for chunk in key.chunks_exact(16) {
-            state = fold(word(chunk, 0) ^ state, word(chunk, 8) ^ second);
+            state = fold(word::<8>(chunk, 0) ^ state, word::<8>(chunk, 8) ^ second);
         }
         // The last 16 bytes, which may have been read in part; or all, where there are fewer. The
         // length tells them apart. It comes in last: beside a word of the key it would tell
         // nothing apart from another length with another byte.
         let (low, high) = match len {
-            16.. => (word(key, len - 16), word(key, len - 8)),
-            8.. => (word(key, 0), word(key, len - 8)),
-            4.. => (four(key, 0), four(key, len - 4)),
+            16.. => (word::<8>(key, len - 16), word::<8>(key, len - 8)),
+            8.. => (word::<8>(key, 0), word::<8>(key, len - 8)),
+            4.. => (word::<4>(key, 0), word::<4>(key, len - 4)),
             1.. => (
                 u64::from(key[0]) << 16 | u64::from(key[len / 2]) << 8 | u64::from(key[len - 1]),
                 0,
@@ -87,11 +89,6 @@ impl Hasher for Fingerprint<'_> {
     fn write_usize(&mut self, number: usize) {
         self.write_u64(number as u64);
     }
-}
-
-#[inline]
-fn four(bytes: &[u8], at: usize) -> u64 {
-    u64::from(u32::from_le_bytes(bytes[at..at + 4].try_into().expect("four bytes")))
 }
 
 /// The bytes that a key feeds. Equal keys feed equal bytes. Different keys may feed the same, so

@@ -3,14 +3,10 @@
 //! key, which ones join it, what a Forget ends and what is current. It runs no load, and nobody
 //! sleeps in it.
 
-#[cfg(sflight_library)]
-mod library;
-#[cfg(sflight_library)]
-pub(crate) use library::*;
-#[cfg(not(sflight_library))]
-mod plain;
-#[cfg(not(sflight_library))]
-pub(crate) use plain::*;
+#[cfg_attr(sflight_library, path = "keyed/library.rs")]
+#[cfg_attr(not(sflight_library), path = "keyed/plain.rs")]
+mod body;
+pub(crate) use body::*;
 
 /// Which call of the group: no two have one name.
 #[repr(C)]
@@ -68,9 +64,9 @@ mod tests {
     use crate::Stamp;
 
     fn open() -> (Handle, Handle) {
-        let mut first = Handle::open(8, [0x9e37_79b9_7f4a_7c15, 0xd1b5_4a32_d192_ed03]).unwrap();
+        let mut first = Handle::open(8).unwrap();
         let second = first.split().unwrap();
-        assert!(first.is_open() && second.is_open() && !Handle::NONE.is_open());
+        assert!(first.is_open() && second.is_open() && !Handle::default().is_open());
         (first, second)
     }
 

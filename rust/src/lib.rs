@@ -101,16 +101,11 @@ mod keyed;
 mod places;
 mod post;
 mod recording;
-#[cfg(all(test, sflight_schedules))]
-mod schedules;
-#[cfg(all(test, not(sflight_schedules)))]
-#[path = "schedules/elsewhere.rs"]
+#[cfg(test)]
+#[cfg_attr(not(sflight_schedules), path = "schedules/elsewhere.rs")]
 mod schedules;
 mod shared;
-#[cfg(not(test))]
-mod sync;
-#[cfg(test)]
-#[path = "schedules/sync.rs"]
+#[cfg_attr(test, path = "schedules/sync.rs")]
 mod sync;
 
 #[cfg(test)]
@@ -129,14 +124,15 @@ pub use cache::{
     Cache, CacheBuilder, CacheStats, Fetched, LoadError, Reason, Recorder, WriteToken,
 };
 pub use caller::Caller;
-use chan::Leader;
 pub use chan::{Job, Receiver};
+use chan::{Leader, Subscribed};
+use places::until;
 pub use recording::{RecordError, Recorded, Recording};
 use shared::{Crowded, Shared};
 use std::fmt;
 use std::future::Future;
 use std::sync::Arc;
-use std::time::{Duration, Instant};
+use std::time::Duration;
 
 /// For how many concurrent loads a new group has room, and for how many it can have at first.
 const LOADS: u32 = 64;
@@ -179,23 +175,19 @@ pub enum Error {
 
 impl fmt::Display for Error {
     fn fmt(&self, f: &mut fmt::Formatter<'_>) -> fmt::Result {
-        match self {
+        f.write_str(match self {
             Error::Loads(count) => {
-                write!(f, "{count} concurrent loads: a group is for 1 to 1,048,576")
+                return write!(f, "{count} concurrent loads: a group is for 1 to 1,048,576");
             }
-            Error::OutOfMemory => {
-                f.write_str("out of memory: free some, or expect fewer loads or entries")
+            Error::OutOfMemory => "out of memory: free some, or expect fewer loads or entries",
+            Error::TimedOut => {
+                "timed out: the key's load goes on; ask again, or forget the key to load it anew"
             }
-            Error::TimedOut => f.write_str(
-                "timed out: the key's load goes on; ask again, or forget the key to load it anew",
-            ),
-            Error::OldProcessor => f.write_str(
-                "the processor is below x86-64-v2: build with --cfg singleflight_plain for it",
-            ),
-            Error::NoLoader => {
-                f.write_str("refresh_after needs a loader: see CacheBuilder::loader")
+            Error::OldProcessor => {
+                "the processor is below x86-64-v2: build with --cfg singleflight_plain for it"
             }
-        }
+            Error::NoLoader => "refresh_after needs a loader: see CacheBuilder::loader",
+        })
     }
 }
 
@@ -306,10 +298,6 @@ pub struct Stamp {
 impl Stamp {
     /// A table that there is not.
     const NONE: Stamp = Stamp { table: u64::MAX, slot: 0, age: 0 };
-
-    fn is_none(&self) -> bool {
-        self.table == Self::NONE.table
-    }
 }
 
 impl Default for Stamp {
@@ -452,9 +440,7 @@ impl<T: Send + Sync> Group<T> {
         timeout: Duration,
         load: impl FnOnce() -> T,
     ) -> Result<Loaded<T>, Error> {
-        let deadline = Instant::now().checked_add(timeout);
-        let got = Asker::new().get(&self.shared, key.as_ref(), deadline, |_| load());
-        got.ok_or(Error::TimedOut)
+        Asker::new().get(&self.shared, key.as_ref(), Some(timeout), |_| load())
     }
 
     /// Returns the value of the key in a task: from the key's open call, or by awaiting `load`. The
@@ -508,18 +494,18 @@ impl<T: Send + Sync> Group<T> {
     where
         T: 'a,
     {
-        Job::subscribe(Leader::Own(self.caller()), key.as_ref())
+        until(|| self.try_subscribe(&key).ok())
     }
 
     /// As `subscribe`, where it would not wait for others to leave the call.
-    pub(crate) fn try_subscribe<'a>(
-        &self,
-        key: impl AsRef<[u8]>,
-    ) -> Result<(Receiver<T>, Option<Job<'a, T>>), Crowded>
+    pub(crate) fn try_subscribe<'a, K>(&self, key: K) -> Result<Subscribed<'a, T>, Crowded>
     where
+        K: AsRef<[u8]>,
         T: 'a,
     {
-        Job::try_subscribe(Leader::Own(self.caller()), key.as_ref())
+        let mut caller = self.caller();
+        let join = self.shared.ask(key.as_ref(), &mut caller.asker)?;
+        Ok(Job::new(Leader::Own(caller), join))
     }
 
     /// Forgets the key: a caller that asks from now on never receives a value whose load began

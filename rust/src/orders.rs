@@ -179,7 +179,7 @@ pub(crate) fn sleep<'a, T>(
     condition: &Condvar,
     mutex: &'a Mutex<T>,
     guard: MutexGuard<'a, T>,
-    time: Option<Duration>,
+    time: Duration,
 ) -> MutexGuard<'a, T> {
     fn wake<T>(mutex: usize, condition: usize) {
         // SAFETY: both belong to the group, which outlives its orders' callers.
@@ -191,7 +191,7 @@ pub(crate) fn sleep<'a, T>(
     let Some((world, name)) = own() else { return guard };
     let mut actors = world.lock();
     let actor = actors.of(name);
-    actor.may_leave = time.is_some();
+    actor.may_leave = time < Duration::MAX;
     if actor.may_leave && actor.is_late {
         return guard;
     }

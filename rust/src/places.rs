@@ -1,18 +1,14 @@
 //! Handles of the keyed group near each thread, with what its calls need beside them: so that
 //! threads share no lock.
 
-use crate::keyed::{Audience, Call, Handle};
+use crate::keyed::{Call, Handle};
 use crate::sync::{pause, point};
-use crate::{Error, Stats};
-use std::cell::{Cell, UnsafeCell};
-use std::collections::hash_map::RandomState;
-use std::hash::BuildHasher;
+use crate::Stats;
+use std::cell::UnsafeCell;
 use std::num::NonZero;
 use std::ops::{Deref, DerefMut};
-use std::sync::atomic::{
-    AtomicUsize,
-    Ordering::{Acquire, Relaxed, Release, SeqCst},
-};
+use std::sync::atomic::AtomicUsize;
+use std::sync::atomic::Ordering::{Acquire, Relaxed, Release, SeqCst};
 use std::sync::OnceLock;
 
 /// Within these bounds a group has a place for each processor: also with few processors several
@@ -37,37 +33,21 @@ const TAKEN: usize = 1;
 const HOLDS: usize = 2;
 
 /// A handle, and what its calls need beside it.
+#[derive(Default)]
 pub(crate) struct Seat {
     pub(crate) handle: Handle,
-    idle: Vec<Call>,
+    pub(crate) idle: Vec<Call>,
     /// What was done by this handle.
     pub(crate) loads: u64,
     pub(crate) joins: u64,
     pub(crate) forgets: u64,
-    settles: u64,
+    pub(crate) settles: u64,
     /// Gets of a cache, by this handle.
     pub(crate) hits: u64,
     pub(crate) misses: u64,
 }
 
 impl Seat {
-    /// An idle call. None where there is no memory for one.
-    #[inline]
-    pub(crate) fn take(&mut self) -> Option<Call> {
-        self.idle.pop().or_else(|| self.handle.make())
-    }
-
-    /// Settles the call that is led, if one is. None where nobody is told, and it is idle again.
-    #[inline]
-    pub(crate) fn settle(&mut self, lead: &mut Option<Call>) -> Option<Audience> {
-        let audience = self.handle.settle(lead.as_mut()?);
-        self.settles += 1;
-        if audience.is_none() {
-            self.put(lead.take());
-        }
-        audience
-    }
-
     /// The call is idle again.
     #[inline]
     pub(crate) fn put(&mut self, call: Option<Call>) {
@@ -83,6 +63,7 @@ impl Seat {
 /// of memory.
 ///
 /// Whoever has a place may read what a cache is about to free: see [`Places::pin`].
+#[derive(Default)]
 #[repr(align(128))]
 struct Place {
     state: AtomicUsize,
@@ -105,12 +86,6 @@ impl Drop for Hold<'_> {
 }
 
 impl Place {
-    fn new(handle: Handle) -> Self {
-        let (idle, [loads, joins, forgets, settles, hits, misses]) = (Vec::new(), [0; 6]);
-        let seat = Seat { handle, idle, loads, joins, forgets, settles, hits, misses };
-        Place { state: AtomicUsize::new(FREE), holds: Default::default(), seat: seat.into() }
-    }
-
     /// Takes it where it is free, and protects an address.
     #[inline]
     fn try_take(&self, address: usize) -> Option<Taken<'_>> {
@@ -120,20 +95,8 @@ impl Place {
         is_free.then(|| Taken(self))
     }
 
-    /// Takes it where it is free.
-    #[inline]
-    fn try_lock(&self) -> Option<Taken<'_>> {
-        self.try_take(TAKEN)
-    }
-
     fn lock(&self) -> Taken<'_> {
-        let mut tries = 0;
-        loop {
-            if let Some(taken) = self.try_lock() {
-                return taken;
-            }
-            pause(&mut tries);
-        }
+        until(|| self.try_take(TAKEN))
     }
 }
 
@@ -185,35 +148,33 @@ impl Drop for Taken<'_> {
 /// is always open, and the others are split off from it.
 pub(crate) struct Places(Box<[Place]>);
 
-/// Seeds that nobody knows.
-fn seeds() -> [u64; 2] {
-    let random = RandomState::new();
-    [0, 1].map(|number: u64| random.hash_one(number))
+/// Tries until there is a result, and lets others go on between two tries.
+#[inline]
+pub(crate) fn until<R>(mut try_once: impl FnMut() -> Option<R>) -> R {
+    let mut tries = 0;
+    loop {
+        if let Some(it) = try_once() {
+            return it;
+        }
+        pause(&mut tries);
+    }
 }
 
 impl Places {
-    pub(crate) fn open(cells: u32) -> Result<Self, Error> {
-        let first = Handle::open(cells, seeds())?;
-        let more = (1..place_count()).map(|_| Handle::NONE);
-        Ok(Places(std::iter::once(first).chain(more).map(Place::new).collect()))
+    /// With the first handle, of which the others are split off.
+    pub(crate) fn new(first: Handle) -> Self {
+        let mut places: Box<[Place]> = (0..place_count()).map(|_| Place::default()).collect();
+        places[0].seat.get_mut().handle = first;
+        Places(places)
     }
 
     /// Runs with a handle.
     #[inline]
     pub(crate) fn with<R>(&self, run: impl FnOnce(&mut Seat) -> R) -> R {
-        let own = thread_number() & (self.0.len() - 1);
-        let mut seat = match self.0[own].try_lock() {
-            Some(seat) => seat,
-            None => self.elsewhere(own),
-        };
-        if !seat.handle.is_open() {
-            seat = self.opened(seat);
-        }
-        run(&mut seat)
+        run(&mut until(|| self.pin(TAKEN)))
     }
 
-    /// Takes a place, and protects what is at the address. `None` where all are taken, or there is no
-    /// memory for a handle.
+    /// Takes a place, and protects what is at the address. `None` where all are taken.
     ///
     /// Whoever reads finds an address, takes a place with it, and looks once more whether the address
     /// is where it was found. Whoever frees takes the address away, and then asks
@@ -222,31 +183,26 @@ impl Places {
     #[inline]
     pub(crate) fn pin(&self, address: usize) -> Option<Taken<'_>> {
         let own = thread_number() & (self.0.len() - 1);
-        let taken = match self.0[own].try_take(address) {
-            Some(taken) => taken,
-            None => self.pin_elsewhere(own, address)?,
-        };
-        match taken.handle.is_open() {
-            true => Some(taken),
-            false => self.pin_opened(taken, own, address),
-        }
-    }
-
-    /// Pins the address as `pin` does, at a place that no thread has used before.
-    #[cold]
-    #[inline(never)]
-    fn pin_opened<'a>(&'a self, taken: Taken<'a>, own: usize, address: usize) -> Option<Taken<'a>> {
-        drop(taken);
-        self.with(|_| ());
-        let taken = self.pin_elsewhere(own, address)?;
-        taken.handle.is_open().then_some(taken)
+        let taken = self.0[own].try_take(address).or_else(|| self.elsewhere(own, address))?;
+        Some(if taken.handle.is_open() { taken } else { self.opened(taken, address) })
     }
 
     #[cold]
     #[inline(never)]
-    fn pin_elsewhere(&self, own: usize, address: usize) -> Option<Taken<'_>> {
+    fn elsewhere(&self, own: usize, address: usize) -> Option<Taken<'_>> {
         let (before, after) = self.0.split_at(own);
         after.iter().chain(before).find_map(|place| place.try_take(address))
+    }
+
+    /// This place with its handle opened; or the first one, where there is no memory for a handle.
+    #[cold]
+    #[inline(never)]
+    fn opened<'a>(&'a self, mut seat: Taken<'a>, address: usize) -> Taken<'a> {
+        // Whoever has the first place waits for no other.
+        let mut first = until(|| self.0[0].try_take(address));
+        let Some(handle) = first.handle.split() else { return first };
+        seat.handle = handle;
+        seat
     }
 
     /// Whether somebody may read what is at the address, which nobody can find any more.
@@ -258,34 +214,6 @@ impl Places {
         };
         point();
         self.0.iter().any(is_held)
-    }
-
-    #[cold]
-    #[inline(never)]
-    fn elsewhere(&self, own: usize) -> Taken<'_> {
-        let (before, after) = self.0.split_at(own);
-        let mut places = after.iter().chain(before);
-        places.find_map(|place| place.try_lock()).unwrap_or_else(|| self.0[own].lock())
-    }
-
-    /// This place with its handle opened; or the first one, where there is no memory for a handle.
-    #[cold]
-    #[inline(never)]
-    fn opened<'a>(&'a self, mut seat: Taken<'a>) -> Taken<'a> {
-        // Whoever has the first place waits for no other.
-        let mut first = self.0[0].lock();
-        match first.handle.split() {
-            None => first,
-            Some(handle) => {
-                seat.handle = handle;
-                seat
-            }
-        }
-    }
-
-    /// A handle of the group that belongs to no place. None where there is no memory.
-    pub(crate) fn split(&self) -> Option<Handle> {
-        self.0[0].lock().handle.split()
     }
 
     /// How large the group is, as far as a handle near the thread knows.
@@ -319,18 +247,13 @@ impl Places {
 #[inline]
 pub(crate) fn thread_number() -> usize {
     static NEXT: AtomicUsize = AtomicUsize::new(0);
-    thread_local!(static NUMBER: Cell<usize> = const { Cell::new(usize::MAX) });
-    NUMBER.with(|number| {
-        if number.get() == usize::MAX {
-            number.set(NEXT.fetch_add(1, Relaxed));
-        }
-        number.get()
-    })
+    thread_local!(static NUMBER: usize = NEXT.fetch_add(1, Relaxed));
+    NUMBER.with(|number| *number)
 }
 
 #[test]
 fn what_somebody_reads_is_protected() {
-    let places = Places::open(1).unwrap();
+    let places = Places::new(Handle::open(1).unwrap());
     let [first, second, third] = [0x100, 0x200, 0x300];
     assert!(!places.protects(first));
     // It opens the handle of its place.
@@ -352,9 +275,9 @@ fn what_somebody_reads_is_protected() {
 
 #[test]
 fn one_thread_at_a_time_has_a_seat() {
-    let place = Place::new(Handle::NONE);
-    let mut taken = place.try_lock().unwrap();
-    assert!((0..3).all(|_| place.try_lock().is_none()), "it is taken");
+    let place = Place::default();
+    let mut taken = place.try_take(TAKEN).unwrap();
+    assert!((0..3).all(|_| place.try_take(TAKEN).is_none()), "it is taken");
     taken.loads += 1;
     drop(taken);
     const EACH: u64 = if cfg!(miri) { 50 } else { 20_000 };

@@ -15,7 +15,7 @@ use std::ops::Deref;
 use std::panic::{catch_unwind, AssertUnwindSafe};
 use std::sync::{Arc, Condvar, Mutex, OnceLock};
 use std::task::{Poll, Waker};
-use std::time::Instant;
+use std::time::{Duration, Instant};
 
 /// What those who joined a call are told.
 pub(crate) struct Told<T> {
@@ -23,12 +23,6 @@ pub(crate) struct Told<T> {
     pub(crate) got: Option<Loaded<T>>,
     /// Of the call, if that is recorded.
     pub(crate) record: Option<Arc<CallRecord>>,
-}
-
-impl<T> Told<T> {
-    pub(crate) fn new(got: Option<&Loaded<T>>, record: Option<Arc<CallRecord>>) -> Self {
-        Told { got: got.map(|got| Loaded { led: false, ..got.clone() }), record }
-    }
 }
 
 pub(crate) struct Post<T> {
@@ -41,8 +35,8 @@ pub(crate) struct Post<T> {
 #[derive(Default)]
 pub(crate) struct Waits {
     has_sleepers: bool,
+    // By numbers of tickets.
     wakers: BTreeMap<u64, Waker>,
-    next: u64,
     // Those who have left, if they are recorded, and when.
     pub(crate) left: Vec<(Noted, u64)>,
 }
@@ -145,12 +139,12 @@ impl<T, P: Deref<Target = Shared<T>>> Ticket<T, P> {
         }
         let mut waits = lock(lock_of_waits);
         while told.get().is_none() {
-            let time = deadline.map(|deadline| deadline.checked_duration_since(instant()));
-            if time == Some(None) {
+            let time = deadline.map_or(Duration::MAX, |it| it.saturating_duration_since(instant()));
+            if time.is_zero() {
                 return false;
             }
             waits.has_sleepers = true;
-            waits = sleep(settled, lock_of_waits, waits, time.flatten());
+            waits = sleep(settled, lock_of_waits, waits, time);
         }
         true
     }
@@ -158,16 +152,15 @@ impl<T, P: Deref<Target = Shared<T>>> Ticket<T, P> {
     /// Whether the call is told; else the task is woken when it is.
     pub(crate) fn poll(&mut self, waker: &Waker) -> Poll<()> {
         at("before sleep");
-        // A waker's code runs without the lock: it may ask the group itself.
+        // A waker's code runs without the lock: it may ask the group itself. So the clone is made before
+        // the lock is taken, and is dropped after it.
         let waker = waker.clone();
         let mut waits = lock(&self.post.waits);
         if self.post.told.get().is_some() {
-            drop(waits);
             return Poll::Ready(());
         }
         if self.waker == 0 {
-            waits.next += 1;
-            self.waker = waits.next;
+            self.waker = waits.wakers.last_key_value().map_or(1, |(last, _)| last + 1);
         }
         let before = waits.wakers.insert(self.waker, waker);
         drop(waits);
@@ -177,26 +170,27 @@ impl<T, P: Deref<Target = Shared<T>>> Ticket<T, P> {
 
     /// What the call came to, which is told. None where it ended without a value.
     pub(crate) fn read(self) -> Option<Loaded<T>> {
-        self.post.told.get().expect("a call that is told").got.clone()
+        let got = self.post.told.get().expect("a call that is told").got.as_ref()?;
+        Some(Loaded { led: false, ..got.clone() })
     }
 }
 
 impl<T, P: Deref<Target = Shared<T>>> Drop for Ticket<T, P> {
     fn drop(&mut self) {
-        let mut noted = self.joined.as_mut().and_then(|(_, join)| join.noted.take());
-        let (told, left, mut waker) = (&self.post.told, noted.as_ref().map(|_| now()), None);
+        let noted = self.joined.as_mut().and_then(|(_, join)| join.noted.take());
+        let (told, mut noted, mut waker) = (&self.post.told, noted.map(|it| (it, now())), None);
         if told.get().is_none() {
             let mut waits = lock(&self.post.waits);
             // A waker's code may panic, so it is dropped when the ticket has left.
             waker = waits.wakers.remove(&self.waker);
             if told.get().is_none() {
-                waits.left.extend(noted.take().zip(left));
+                waits.left.extend(noted.take());
             }
         }
         // If it is told, it is recorded as one that has the value, also where it does not want it.
         let record = told.get().and_then(|told| told.record.as_ref());
-        if let (Some(noted), Some(record)) = (noted, record) {
-            record.entered(&noted);
+        if let (Some((noted, at)), Some(record)) = (noted, record) {
+            record.enter(&noted, at);
         }
         if let Some((shared, join)) = self.joined.take() {
             shared.leave(join.call, &join.id);

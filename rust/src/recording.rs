@@ -268,17 +268,11 @@ impl Recordings {
         Some(Noted { from: now(), by })
     }
 
-    /// The Forget that begins, if it is recorded; and whether it is of one call.
-    #[inline]
-    pub(crate) fn forgetting(&self, is_of_one: bool) -> Option<Forgetting> {
-        self.noted().map(|noted| noted.forgetting(is_of_one))
-    }
-
     /// A Forget has ended, and has closed this call. If the Forget is not recorded, the call may be:
     /// the Forget began before the recording, and took effect after the call had begun.
-    pub(crate) fn closed(&self, forgetting: Option<Forgetting>, id: Id) {
-        if let Some(forgetting) = forgetting {
-            forgetting.closed(id);
+    pub(crate) fn closed(&self, noted: Option<Noted>, id: Id, is_of_one: bool) {
+        if let Some(noted) = noted {
+            noted.closed(id, is_of_one);
         } else if self.is_on() {
             let recorder = lock(&self.current).clone();
             recorder.iter().for_each(|recorder| recorder.closed(id, None));
@@ -352,7 +346,7 @@ fn panicked(panic: Box<dyn std::any::Any + Send>) -> io::Error {
     io::Error::other(format!("the writer of a recording panicked: {text}"))
 }
 
-/// What an asking knows of the recording.
+/// What an asking or a Forget knows of the recording.
 #[derive(Clone)]
 pub(crate) struct Noted {
     by: Arc<By>,
@@ -360,14 +354,14 @@ pub(crate) struct Noted {
 }
 
 impl Noted {
-    pub(crate) fn forgetting(self, is_of_one: bool) -> Forgetting {
-        Forgetting { by: self.by, from: self.from, is_of_one }
-    }
-
-    /// The record of a call that this asking leads.
+    /// The record of a call that this asking leads. None for a cache, which tells itself what its gets
+    /// return.
     #[cold]
-    pub(crate) fn record(self, key: &[u8], id: Id) -> Arc<CallRecord> {
-        Arc::new(CallRecord {
+    pub(crate) fn record(self, key: &[u8], id: Id) -> Option<Arc<CallRecord>> {
+        if self.is_of_cache() {
+            return None;
+        }
+        Some(Arc::new(CallRecord {
             by: self.by,
             id,
             key: key.into(),
@@ -378,7 +372,44 @@ impl Noted {
             settled: AtomicU64::new(0),
             outcome: AtomicU8::new(VALUE),
             others: Mutex::new(Others { members: Vec::new(), closing: None }),
-        })
+        }))
+    }
+
+    /// This Forget has ended, and has closed the call.
+    #[cold]
+    fn closed(self, id: Id, is_of_one: bool) {
+        let (caller, from, to) = (self.by.caller(), self.from, now());
+        let closing = Closing { caller, from, to, is_of_one };
+        self.by.recorder.closed(id, Some(closing));
+    }
+
+    /// This Forget has ended, and found no open call.
+    #[cold]
+    pub(crate) fn found_nothing(self, key: &[u8]) {
+        let (caller, from, to) = (self.by.caller(), self.from, now());
+        let forget = ForgetEvent { key: key.into(), caller, from, to, cleared: None };
+        self.by.recorder.push(Entry::Forget(forget));
+    }
+
+    /// This Forget has cleared the call, which had ended: that is recorded, once, if the call is known
+    /// as the last one of its key.
+    #[cold]
+    pub(crate) fn cleared(self, key: &[u8], id: Id) {
+        let recorder = &self.by.recorder;
+        let mut remembered = recorder.remembered(key);
+        if let Some(cleared) = remembered.take(id) {
+            // With the lock held: the next Lead of the key ends later.
+            let (caller, from, to) = (self.by.caller(), self.from, now());
+            drop(remembered);
+            let cleared = Some(cleared);
+            recorder.push(Entry::Forget(ForgetEvent {
+                key: key.into(),
+                caller,
+                from,
+                to,
+                cleared,
+            }));
+        }
     }
 }
 
@@ -447,27 +478,26 @@ impl CallRecord {
         }
     }
 
-    /// Its load has ended without a value.
+    /// Its load has ended, with a value or without: it is about to be settled.
     #[cold]
-    pub(crate) fn fails(&self) {
-        self.outcome.store(outcome_of_a_panic(), Relaxed);
-    }
-
-    /// It is about to be settled.
-    #[cold]
-    pub(crate) fn settles(&self) {
+    pub(crate) fn ends(&self, has_value: bool) {
+        if !has_value {
+            self.outcome.store(outcome_of_a_panic(), Relaxed);
+        }
         self.settles.store(now(), Relaxed);
     }
 
     /// It is settled.
     #[cold]
-    pub(crate) fn settled(&self) {
+    pub(crate) fn settled(self: &Arc<Self>, was_forgotten: bool) {
         self.settled.store(now(), Relaxed);
+        if was_forgotten {
+            self.was_forgotten();
+        }
     }
 
     /// A Forget had closed it before it was settled.
-    #[cold]
-    pub(crate) fn was_forgotten(self: &Arc<Self>) {
+    fn was_forgotten(self: &Arc<Self>) {
         let recorder = &self.by.recorder;
         let mut halves = lock(&recorder.halves);
         if recorder.is_over.load(SeqCst) {
@@ -483,12 +513,6 @@ impl CallRecord {
                 }
             }
         }
-    }
-
-    /// The caller that asked has the value.
-    #[cold]
-    pub(crate) fn entered(&self, noted: &Noted) {
-        self.enter(noted, now());
     }
 
     /// The caller that asked had joined the call, and has left it, or has the value.
@@ -551,51 +575,6 @@ impl Drop for CallRecord {
         // One that was forgotten cannot be cleared.
         if recorder.push(Entry::Call(call)) && closing.is_none() {
             remembers.keep(ended);
-        }
-    }
-}
-
-/// A Forget that is recorded.
-pub(crate) struct Forgetting {
-    by: Arc<By>,
-    from: u64,
-    is_of_one: bool,
-}
-
-impl Forgetting {
-    #[cold]
-    fn closed(self, id: Id) {
-        let (caller, from, to) = (self.by.caller(), self.from, now());
-        let closing = Closing { caller, from, to, is_of_one: self.is_of_one };
-        self.by.recorder.closed(id, Some(closing));
-    }
-
-    /// It has ended, and found no open call.
-    #[cold]
-    pub(crate) fn found_nothing(self, key: &[u8]) {
-        let (caller, from, to) = (self.by.caller(), self.from, now());
-        let forget = ForgetEvent { key: key.into(), caller, from, to, cleared: None };
-        self.by.recorder.push(Entry::Forget(forget));
-    }
-
-    /// It has cleared the call, which had ended: that is recorded, once, if the call is known as the
-    /// last one of its key.
-    #[cold]
-    pub(crate) fn cleared(self, key: &[u8], id: Id) {
-        let recorder = &self.by.recorder;
-        let mut remembered = recorder.remembered(key);
-        if let Some(cleared) = remembered.take(id) {
-            // With the lock held: the next Lead of the key ends later.
-            let (caller, from, to) = (self.by.caller(), self.from, now());
-            drop(remembered);
-            let cleared = Some(cleared);
-            recorder.push(Entry::Forget(ForgetEvent {
-                key: key.into(),
-                caller,
-                from,
-                to,
-                cleared,
-            }));
         }
     }
 }

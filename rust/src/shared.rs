@@ -16,10 +16,10 @@
 //! again.
 
 use crate::asker::Asker;
-use crate::keyed::{self, Asked, Audience, Busy, Handle, Id};
-use crate::places::Places;
+use crate::keyed::{self, Asked, Audience, Handle, Id};
+use crate::places::{until, Places, Seat};
 use crate::post::{Posts, Told};
-use crate::recording::{CallRecord, Noted, Recordings};
+use crate::recording::{Noted, Recordings};
 use crate::sync::{at, pause, point};
 use crate::{Call, Error, ForgetOutcome, Loaded, Stamp};
 use std::sync::{Arc, Mutex};
@@ -49,8 +49,9 @@ const EARLY: u64 = 256;
 
 impl<T> Shared<T> {
     pub(crate) fn open(cells: u32) -> Result<Self, Error> {
-        let places = Places::open(cells)?;
-        let grower = Mutex::new(places.split().ok_or(Error::OutOfMemory)?);
+        let mut grower = Handle::open(cells)?;
+        let places = Places::new(grower.split().ok_or(Error::OutOfMemory)?);
+        let grower = Mutex::new(grower);
         Ok(Shared { places, posts: Posts::new(), grower, recordings: Arc::default() })
     }
 
@@ -59,47 +60,42 @@ impl<T> Shared<T> {
     #[inline]
     pub(crate) fn ask(&self, key: &[u8], asker: &mut Asker<T>) -> Result<Option<Join>, Crowded> {
         asker.abandon(self);
-        let mut noted = self.recordings.noted();
-        // A cache tells itself what its gets return.
-        let of_cache = noted.take_if(|noted| noted.is_of_cache());
+        let noted = self.recordings.noted();
         let mut tries = 0;
         loop {
             at("before ask");
-            let mut is_early = false;
-            let locked = of_cache.as_ref().and_then(|noted| noted.locks(key));
+            let locked = noted.as_ref().and_then(|noted| noted.locks(key));
             let asked = self.places.with(|seat| {
-                asker.lead = seat.take();
+                // Where there is no memory for an idle call it loads for itself alone.
+                asker.lead = seat.idle.pop().or_else(|| seat.handle.make());
                 let asked = seat.handle.ask(asker.lead.as_mut()?, key, &mut asker.name);
                 match asked {
-                    Asked::Led => {
-                        seat.loads += 1;
-                        is_early = seat.loads % EARLY == 0;
-                    }
+                    Asked::Led => seat.loads += 1,
                     Asked::Joined => seat.joins += 1,
                     _ => seat.put(asker.lead.take()),
                 }
-                Some(asked)
+                Some((asked, seat.loads))
             });
-            let locked = locked.filter(|_| matches!(asked, Some(Asked::Led)));
+            let locked = locked.filter(|_| matches!(asked, Some((Asked::Led, _))));
             asker.value = locked.and_then(|locked| locked.leads(asker.name.id));
             match asked {
-                Some(Asked::Led) => {
+                Some((Asked::Led, loads)) => {
                     at("asked");
-                    asker.record = noted.map(|noted| noted.record(key, asker.name.id));
-                    if is_early {
-                        self.grow_early();
+                    asker.record = noted.and_then(|noted| noted.record(key, asker.name.id));
+                    if loads % EARLY == 0 {
+                        self.grow(true);
                     }
                     return Ok(None);
                 }
-                Some(Asked::Joined) => {
+                Some((Asked::Joined, _)) => {
                     at("asked");
                     let call = asker.lead.take().expect("the call that has joined");
                     return Ok(Some(Join { call, id: asker.name.id, noted }));
                 }
-                Some(Asked::Crowded) => return Err(Crowded),
-                Some(Asked::Busy) => pause(&mut tries),
-                Some(Asked::Full) if self.grow() => pause(&mut tries),
-                Some(Asked::Full) | None => {
+                Some((Asked::Crowded, _)) => return Err(Crowded),
+                Some((Asked::Busy, _)) => pause(&mut tries),
+                Some((Asked::Full, _)) if self.grow(false) => pause(&mut tries),
+                Some((Asked::Full, _)) | None => {
                     asker.name = Call::NONE;
                     return Ok(None);
                 }
@@ -107,78 +103,68 @@ impl<T> Shared<T> {
         }
     }
 
-    /// Makes room for more open calls, unless another thread does. False where there can be none. It
-    /// may take long, and holds up nobody meanwhile.
+    /// Makes room for more open calls, unless another thread does. Returns false if there can be no
+    /// more. It may take long, and holds up nobody meanwhile. If it is early, it does so only where half
+    /// of the room is taken. It may know that late: then a caller finds no room.
     #[cold]
-    fn grow(&self) -> bool {
+    fn grow(&self, is_early: bool) -> bool {
         let Ok(mut grower) = self.grower.try_lock() else { return true };
         point();
+        if is_early && self.places.stats().in_use <= grower.measure().cells / 2 {
+            return true;
+        }
         grower.grow()
     }
 
-    /// Grows if half of the room is taken. It may know it late: then a caller finds no room.
-    #[cold]
-    fn grow_early(&self) {
-        let in_use = self.places.stats().in_use;
-        if let Ok(mut grower) = self.grower.try_lock() {
-            if in_use > grower.measure().cells / 2 {
-                grower.grow();
-            }
-        }
-    }
-
-    /// Settles the call that is led, if one is, with what its load came to, or without a value. How
-    /// many have joined is written, and that a forgotten value has no stamp.
+    /// Settles the call that is led, if one is, with what its load came to, or without a value, and
+    /// tells the receiver of its job, if there is one. Writes how many have joined, and takes the stamp
+    /// from a value that was forgotten.
     #[inline]
-    pub(crate) fn settle(&self, asker: &mut Asker<T>, got: Option<&mut Loaded<T>>) {
+    pub(crate) fn settle(&self, asker: &mut Asker<T>, mut got: Option<&mut Loaded<T>>) {
         at("before settle");
-        let (record, value) = (asker.record.take(), asker.value.take());
-        if let Some(value) = &value {
-            value.ends(got.is_some());
-        }
-        if let Some(record) = &record {
-            if got.is_none() {
-                record.fails();
+        let value = asker.value.take();
+        asker.record.iter().for_each(|record| record.ends(got.is_some()));
+        value.iter().for_each(|value| value.ends(got.is_some()));
+        let audience = self.places.with(|seat| {
+            let audience = seat.handle.settle(asker.lead.as_mut()?);
+            seat.settles += 1;
+            if audience.is_none() {
+                seat.put(asker.lead.take());
             }
-            record.settles();
+            audience
+        });
+        let was_forgotten = audience.is_some_and(|audience| audience.forgotten);
+        asker.record.iter().for_each(|record| record.settled(was_forgotten));
+        value.into_iter().for_each(|value| value.settled(was_forgotten));
+        if let Some(audience) = audience {
+            self.tell(asker, audience, got.as_deref_mut());
         }
-        let audience = self.places.with(|seat| seat.settle(&mut asker.lead));
-        if let Some(record) = &record {
-            record.settled();
-        }
-        if let Some(value) = value {
-            value.settled(audience.is_some_and(|audience| audience.forgotten));
-        }
-        if let (Some(audience), Some(call)) = (audience, asker.lead.take()) {
-            self.tell(&audience, call, &asker.name.id, got, record);
+        asker.record = None;
+        if let Some(own) = asker.own.take() {
+            own.tell(Told { got: got.cloned(), record: None }).wake();
         }
     }
 
     /// The call is settled, and held: tells who joined it, and leaves it.
     #[cold]
     #[inline(never)]
-    fn tell(
-        &self,
-        audience: &Audience,
-        call: keyed::Call,
-        id: &Id,
-        mut got: Option<&mut Loaded<T>>,
-        record: Option<Arc<CallRecord>>,
-    ) {
+    fn tell(&self, asker: &mut Asker<T>, audience: Audience, mut got: Option<&mut Loaded<T>>) {
+        let call = asker.lead.take().expect("the call that is held");
+        let (id, record) = (&asker.name.id, &asker.record);
         if let Some(got) = &mut got {
             // One that has left had joined too.
             let others = audience.holders.saturating_sub(1).max(audience.joined.into());
             got.joiners = others as u32;
-        }
-        if audience.forgotten {
-            record.iter().for_each(|record| record.was_forgotten());
-            got.iter_mut().for_each(|got| got.call.stamp = Stamp::NONE);
+            if audience.forgotten {
+                got.call.stamp = Stamp::NONE;
+            }
         }
         at("settled");
         if !audience.joined {
             return self.leave(call, id);
         }
-        let mut woken = self.posts.of(id).tell(Told::new(got.as_deref(), record.clone()));
+        let told = Told { got: got.cloned(), record: record.clone() };
+        let mut woken = self.posts.of(id).tell(told);
         for (noted, at) in woken.left.drain(..) {
             record.iter().for_each(|record| record.enter(&noted, at));
         }
@@ -199,61 +185,24 @@ impl<T> Shared<T> {
         }
     }
 
-    /// Forgets by a handle, again where others were quicker in each try.
-    fn forgets<R>(
-        &self,
-        forget: impl Fn(&mut Handle) -> Result<R, Busy>,
-        counts: impl Fn(&R) -> bool,
-    ) -> R {
-        self.forgets_until(|| self.tries_to_forget(&forget, &counts))
-    }
-
-    fn forgets_until<R>(&self, try_once: impl Fn() -> Result<R, Busy>) -> R {
-        let mut tries = 0;
-        loop {
-            at("before forget");
-            if let Ok(forgot) = try_once() {
-                at("forgotten");
-                return forgot;
-            }
-            pause(&mut tries);
-        }
-    }
-
-    fn tries_to_forget<R>(
-        &self,
-        forget: impl Fn(&mut Handle) -> Result<R, Busy>,
-        counts: impl Fn(&R) -> bool,
-    ) -> Result<R, Busy> {
-        self.places.with(|seat| {
-            let forgot = forget(&mut seat.handle);
-            seat.forgets += u64::from(forgot.as_ref().is_ok_and(counts));
-            forgot
-        })
-    }
-
-    /// Forgets a key of a cache that is recorded: whether that ended an open call.
-    #[cold]
-    fn forget_of_cache(&self, key: &[u8], noted: &Noted) -> bool {
-        self.forgets_until(|| {
-            let locked = noted.locks(key);
-            let closed = self.tries_to_forget(|handle| handle.forget(key), |_| true)?;
-            locked.into_iter().for_each(|locked| locked.forgot(closed));
-            Ok(closed.is_some())
-        })
-    }
-
     /// Forgets the key: whether that ended an open call.
     pub(crate) fn forget(&self, key: &[u8]) -> bool {
-        let mut noted = self.recordings.noted();
-        if let Some(noted) = noted.take_if(|noted| noted.is_of_cache()) {
-            return self.forget_of_cache(key, &noted);
-        }
-        let forgetting = noted.map(|noted| noted.forgetting(false));
-        let closed = self.forgets(|handle| handle.forget(key), |_| true);
-        match (closed, forgetting) {
-            (Some(id), forgetting) => self.recordings.closed(forgetting, id),
-            (None, Some(forgetting)) => forgetting.found_nothing(key),
+        let noted = self.recordings.noted();
+        at("before forget");
+        // A key of a cache that is recorded is locked until it is forgotten.
+        let locked = noted.as_ref().and_then(|noted| noted.locks(key));
+        let forget_once = |seat: &mut Seat| {
+            let closed = seat.handle.forget(key).ok()?;
+            seat.forgets += 1;
+            Some(closed)
+        };
+        let closed = until(|| self.places.with(forget_once));
+        let is_of_cache = locked.map(|locked| locked.forgot(closed)).is_some();
+        at("forgotten");
+        match (closed, noted) {
+            _ if is_of_cache => {}
+            (Some(id), noted) => self.recordings.closed(noted, id, false),
+            (None, Some(noted)) => noted.found_nothing(key),
             (None, None) => {}
         }
         closed.is_some()
@@ -261,34 +210,33 @@ impl<T> Shared<T> {
 
     /// Forgets this call of the key.
     pub(crate) fn forget_call(&self, key: &[u8], call: Call) -> ForgetOutcome {
-        if call.stamp.is_none() {
-            // It was forgotten before it was settled.
-            return ForgetOutcome::Missed;
-        }
-        let forgetting = self.recordings.forgetting(true);
-        let forget = |handle: &mut Handle| {
-            let was_still = handle.is_still(&call.stamp);
-            Ok((handle.forget_call(key, &call)?, was_still))
+        let noted = self.recordings.noted();
+        at("before forget");
+        let forget_once = |seat: &mut Seat| {
+            let was_still = seat.handle.is_still(&call.stamp);
+            let was_open = seat.handle.forget_call(key, &call).ok()?;
+            seat.forgets += u64::from(was_open || was_still);
+            Some(match (was_open, was_still) {
+                (true, _) => ForgetOutcome::Closed,
+                (false, true) => ForgetOutcome::Cleared,
+                (false, false) => ForgetOutcome::Missed,
+            })
         };
-        let (was_open, was_still) = self.forgets(forget, |it: &(bool, bool)| it.0 || it.1);
-        if was_open {
-            self.recordings.closed(forgetting, call.id);
-            return ForgetOutcome::Closed;
+        let found = until(|| self.places.with(forget_once));
+        at("forgotten");
+        match (found, noted) {
+            (ForgetOutcome::Closed, noted) => self.recordings.closed(noted, call.id, true),
+            (ForgetOutcome::Cleared, Some(noted)) => noted.cleared(key, call.id),
+            _ => {}
         }
-        if !was_still {
-            return ForgetOutcome::Missed;
-        }
-        if let Some(forgetting) = forgetting {
-            forgetting.cleared(key, call.id);
-        }
-        ForgetOutcome::Cleared
+        found
     }
 
     /// Whether no Forget has ended the stamp.
     #[inline]
     pub(crate) fn is_current(&self, stamp: Stamp) -> bool {
         point();
-        !stamp.is_none() && self.places.with(|seat| seat.handle.is_still(&stamp))
+        self.places.with(|seat| seat.handle.is_still(&stamp))
     }
 }
 

@@ -48,12 +48,9 @@ pub(crate) fn sleep<'a, T>(
     condition: &Condvar,
     _: &'a Mutex<T>,
     guard: MutexGuard<'a, T>,
-    time: Option<Duration>,
+    time: Duration,
 ) -> MutexGuard<'a, T> {
-    match time {
-        None => condition.wait(guard).unwrap_or_else(PoisonError::into_inner),
-        Some(time) => condition.wait_timeout(guard, time).unwrap_or_else(PoisonError::into_inner).0,
-    }
+    condition.wait_timeout(guard, time).unwrap_or_else(PoisonError::into_inner).0
 }
 
 /// So many tries spin, and so many in all do not sleep: what another thread is about to do takes

@@ -2,7 +2,8 @@
 
 use super::{Asked, Audience, Busy, Id, Size};
 use crate::{Error, Stamp};
-use std::ptr::null_mut;
+use std::collections::hash_map::RandomState;
+use std::hash::BuildHasher;
 
 const DONE: u32 = 0;
 const LED: u32 = 1;
@@ -20,26 +21,22 @@ const OLD_PROCESSOR: u32 = 16;
 /// After so many tries it says that it is busy.
 const TRIES: u32 = 64;
 
-/// What a thread needs to call, or nothing.
+/// What a thread needs to call, or nothing. Any thread may use it, one at a time. The address in it
+/// is for the library alone.
+#[derive(Default)]
 #[repr(C)]
 pub(crate) struct Handle {
-    at: *mut u8,
+    at: usize,
     live: bool,
 }
 
-/// One asking at a time: idle, leading, or holding.
+/// One asking at a time: idle, leading, or holding. Any thread may use it, one at a time.
+#[derive(Default)]
 #[repr(C)]
 pub(crate) struct Call {
-    at: *mut u8,
+    at: usize,
     live: bool,
 }
-
-// SAFETY: the header says that any thread may use a handle or a call, one at a time.
-unsafe impl Send for Handle {}
-// SAFETY: as above.
-unsafe impl Send for Call {}
-// SAFETY: by a shared reference nothing can be done with it.
-unsafe impl Sync for Call {}
 
 // SAFETY: the signatures are those of `sflight.h`. Those that are safe have all duties of that
 // header met by their types: a handle or a call begins as nothing, and nobody can copy one; two
@@ -89,11 +86,12 @@ fn unexpected(code: u32) -> ! {
 }
 
 impl Handle {
-    pub(crate) const NONE: Handle = Handle { at: null_mut(), live: false };
-
-    pub(crate) fn open(cells: u32, seeds: [u64; 2]) -> Result<Self, Error> {
-        let mut handle = Handle::NONE;
-        match sflight_open(&mut handle, cells.into(), seeds[0], seeds[1]) {
+    pub(crate) fn open(cells: u32) -> Result<Self, Error> {
+        // Seeds that nobody knows.
+        let random = RandomState::new();
+        let [first, second] = [0u64, 1].map(|number| random.hash_one(number));
+        let mut handle = Handle::default();
+        match sflight_open(&mut handle, cells.into(), first, second) {
             DONE => Ok(handle),
             OLD_PROCESSOR => Err(Error::OldProcessor),
             _ => Err(Error::OutOfMemory),
@@ -107,13 +105,13 @@ impl Handle {
 
     /// Another one of the group. None where there is no memory.
     pub(crate) fn split(&mut self) -> Option<Handle> {
-        let mut other = Handle::NONE;
+        let mut other = Handle::default();
         (sflight_split(self, &mut other) == DONE).then_some(other)
     }
 
     /// An idle call. None where there is no memory.
     pub(crate) fn make(&mut self) -> Option<Call> {
-        let mut call = Call { at: null_mut(), live: false };
+        let mut call = Call::default();
         (sflight_make(self, &mut call) == DONE).then_some(call)
     }
 

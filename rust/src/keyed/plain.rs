@@ -7,11 +7,9 @@ use crate::{Error, Stamp};
 use std::collections::hash_map::RandomState;
 use std::collections::HashMap;
 use std::hash::BuildHasher;
-use std::sync::atomic::{
-    AtomicU64,
-    Ordering::{Acquire, Release},
-};
-use std::sync::{Arc, Mutex};
+use std::sync::atomic::AtomicU64;
+use std::sync::atomic::Ordering::{Acquire, Release};
+use std::sync::{Arc, Mutex, MutexGuard};
 
 const SHARDS: usize = 16;
 /// A call can be held so often; in the schedule test by few, so that it plays what comes then.
@@ -23,14 +21,20 @@ const AGES_OF_CELL: usize = 16;
 const FEWEST_AGES: usize = 1 << 8;
 const MOST_AGES: usize = 1 << 20;
 
+/// A call that is open or held.
+struct Open {
+    id: Id,
+    key: Arc<[u8]>,
+    /// Written with the shard's lock held, except by callers that leave.
+    of: Mutex<Audience>,
+}
+
 /// No two of them lie in one line of memory.
 #[repr(align(128))]
 #[derive(Default)]
 struct Shard {
-    /// The open calls, by their keys: the generation of each.
-    open: HashMap<Arc<[u8]>, u64>,
-    /// The calls that are open or held, by their generations.
-    calls: HashMap<u64, Audience>,
+    /// The open calls, by their keys.
+    open: HashMap<Arc<[u8]>, Arc<Open>>,
     generation: u64,
 }
 
@@ -42,43 +46,39 @@ struct Table {
 }
 
 impl Shard {
-    /// Closes the key's open call, if there is one: its generation.
-    fn close(&mut self, key: &[u8]) -> Option<u64> {
-        let generation = self.open.remove(key)?;
-        self.calls.get_mut(&generation).expect("an open call").forgotten = true;
-        Some(generation)
+    /// Closes the key's open call, if there is one.
+    fn close(&mut self, key: &[u8]) -> Option<Id> {
+        let open = self.open.remove(key)?;
+        lock(&open.of).forgotten = true;
+        Some(open.id)
     }
 }
 
 impl Table {
-    /// The number of the key's age, and its shard, which is the same for all keys of that age.
-    fn of(&self, key: &[u8]) -> (usize, usize) {
+    /// Locks the key's shard, and returns it beside the number of the key's age, which is the cell of its
+    /// calls too. All keys of an age have one shard. It is busy in the schedule test alone, sometimes.
+    fn shard(&self, key: &[u8]) -> Result<(usize, MutexGuard<'_, Shard>), Busy> {
+        if is_unlucky() {
+            return Err(Busy);
+        }
         let slot = self.hash.hash_one(key) as usize & (self.ages.len() - 1);
-        (slot, slot % SHARDS)
+        Ok((slot, lock(&self.shards[slot % SHARDS])))
     }
 }
 
+#[derive(Default)]
 pub(crate) struct Handle(Option<Arc<Table>>);
 
-/// One asking at a time.
-pub(crate) struct Call {
-    // The shard is its cell. The generation is 0 where it is idle.
-    id: Id,
-    // Of the call that it leads.
-    key: Option<Arc<[u8]>>,
-}
+/// One asking at a time: the call that it leads or holds, or none.
+pub(crate) struct Call(Option<Arc<Open>>);
 
 impl Handle {
-    pub(crate) const NONE: Handle = Handle(None);
-
-    pub(crate) fn open(cells: u32, _: [u64; 2]) -> Result<Self, Error> {
+    pub(crate) fn open(cells: u32) -> Result<Self, Error> {
         let ages = cells as usize * AGES_OF_CELL;
         let ages = (1 << ages.ilog2()).clamp(FEWEST_AGES, MOST_AGES);
-        Ok(Handle(Some(Arc::new(Table {
-            hash: RandomState::new(),
-            shards: Default::default(),
-            ages: (0..ages).map(|_| AtomicU64::new(0)).collect(),
-        }))))
+        let ages = (0..ages).map(|_| AtomicU64::new(0)).collect();
+        let table = Table { hash: RandomState::new(), shards: Default::default(), ages };
+        Ok(Handle(Some(Arc::new(table))))
     }
 
     #[inline]
@@ -95,90 +95,70 @@ impl Handle {
     }
 
     pub(crate) fn make(&mut self) -> Option<Call> {
-        Some(Call { id: Id::default(), key: None })
+        Some(Call(None))
     }
 
     pub(crate) fn ask(&mut self, call: &mut Call, key: &[u8], name: &mut crate::Call) -> Asked {
-        assert!(call.id.generation == 0, "an idle call");
-        if is_unlucky() {
-            return Asked::Busy;
-        }
+        assert!(call.0.is_none(), "an idle call");
         let table = self.table();
-        let (slot, at) = table.of(key);
-        let mut shard = lock(&table.shards[at]);
-        let (asked, generation) = if let Some(generation) = shard.open.get(key).copied() {
-            let of = shard.calls.get_mut(&generation).expect("an open call");
+        let Ok((slot, mut shard)) = table.shard(key) else { return Asked::Busy };
+        let (asked, open) = if let Some(open) = shard.open.get(key) {
+            let mut of = lock(&open.of);
             if of.holders == HOLDERS {
                 return Asked::Crowded;
             }
             of.holders += 1;
             of.joined = true;
-            (Asked::Joined, generation)
+            (Asked::Joined, open.clone())
         } else {
             shard.generation += 1;
-            let (key, generation): (Arc<[u8]>, _) = (key.into(), shard.generation);
-            shard.open.insert(key.clone(), generation);
-            shard.calls.insert(generation, Audience { holders: 1, ..Audience::default() });
-            call.key = Some(key);
+            let id = Id { table: 0, cell: slot as u32, generation: shard.generation };
+            let of = Mutex::new(Audience { holders: 1, ..Audience::default() });
+            let open = Arc::new(Open { id, key: key.into(), of });
+            shard.open.insert(open.key.clone(), open.clone());
             let age = table.ages[slot].load(Acquire);
             name.stamp = Stamp { table: 0, slot: slot as u64, age };
-            (Asked::Led, generation)
+            (Asked::Led, open)
         };
-        call.id = Id { table: 0, cell: at as u32, generation };
-        name.id = call.id;
+        name.id = open.id;
+        call.0 = Some(open);
         asked
     }
 
     pub(crate) fn settle(&mut self, call: &mut Call) -> Option<Audience> {
-        let key = call.key.take().expect("a call that is led");
-        let Id { cell, generation, .. } = call.id;
-        let mut shard = lock(&self.table().shards[cell as usize]);
-        let audience = shard.calls[&generation];
+        let open = call.0.as_ref().expect("a call that is led");
+        let mut shard = lock(&self.table().shards[open.id.cell as usize % SHARDS]);
+        let audience = *lock(&open.of);
         // A Forget may have closed it, and a newer one be open.
         if !audience.forgotten {
-            shard.open.remove(&key);
+            shard.open.remove(&open.key);
         }
         if audience.joined || audience.forgotten {
             return Some(audience);
         }
-        shard.calls.remove(&generation);
-        call.id.generation = 0;
+        call.0 = None;
         None
     }
 
     pub(crate) fn leave(&mut self, call: &mut Call) -> bool {
-        let generation = std::mem::take(&mut call.id.generation);
-        let mut shard = lock(&self.table().shards[call.id.cell as usize]);
-        let of = shard.calls.get_mut(&generation).expect("a call that is held");
+        let open = call.0.take().expect("a call that is held");
+        let mut of = lock(&open.of);
         of.holders -= 1;
         // Its leader holds it until it is settled.
-        let is_last = of.holders == 0;
-        if is_last {
-            shard.calls.remove(&generation);
-        }
-        is_last
+        of.holders == 0
     }
 
     pub(crate) fn forget(&mut self, key: &[u8]) -> Result<Option<Id>, Busy> {
-        if is_unlucky() {
-            return Err(Busy);
-        }
         let table = self.table();
-        let (slot, at) = table.of(key);
-        let mut shard = lock(&table.shards[at]);
+        let (slot, mut shard) = table.shard(key)?;
         table.ages[slot].fetch_add(1, Release);
-        let closed = shard.close(key);
-        Ok(closed.map(|generation| Id { table: 0, cell: at as u32, generation }))
+        Ok(shard.close(key))
     }
 
     pub(crate) fn forget_call(&mut self, key: &[u8], of: &crate::Call) -> Result<bool, Busy> {
-        if is_unlucky() {
-            return Err(Busy);
-        }
-        let table = self.table();
-        let (crate::Call { id, stamp }, at) = (of, table.of(key).1);
-        let mut shard = lock(&table.shards[at]);
-        if id.cell as usize == at && shard.open.get(key) == Some(&id.generation) {
+        let crate::Call { id, stamp } = of;
+        let (_, mut shard) = self.table().shard(key)?;
+        if shard.open.get(key).is_some_and(|open| open.id == *id) {
             shard.close(key);
             return Ok(true);
         }
@@ -211,7 +191,7 @@ impl Handle {
 
 #[test]
 fn a_call_is_held_only_so_often() {
-    let mut handle = Handle::open(1, [1, 2]).unwrap();
+    let mut handle = Handle::open(1).unwrap();
     let mut name = crate::Call::NONE;
     let mut calls: Vec<_> = (0..=HOLDERS).map(|_| handle.make().unwrap()).collect();
     let asked = calls.iter_mut().map(|call| handle.ask(call, b"key", &mut name));

@@ -55,7 +55,7 @@ pub(crate) fn sleep<'a, T>(
     condition: &Condvar,
     mutex: &'a Mutex<T>,
     guard: MutexGuard<'a, T>,
-    time: Option<Duration>,
+    time: Duration,
 ) -> MutexGuard<'a, T> {
     if schedules::is_played() {
         drop(guard);
