@@ -376,8 +376,8 @@ func (t *values[K, V]) stageOf(n *node[K, V]) (is state, steady time.Duration) {
 	return isFresh, steady
 }
 
-// hit returns the key's node and its state. One that is fresh is found: see found. It takes out none, and does not find what moves: look
-// does. Nobody records.
+// hit is look for a fill that nobody records. It returns the key's node and its state, takes no node out, and misses one that moves. So
+// a Get that gets no fresh node from it calls look.
 func (t *values[K, V]) hit(key K, print uint32, by *tally) (n *node[K, V], is state) {
 	n = t.shard(print).find(key, print)
 	if n == nil {

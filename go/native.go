@@ -76,7 +76,7 @@ type handle struct {
 	told                        cAudience
 	value                       uint64
 	stack                       *[stackSize]byte
-	put                         func() // gives it back that take has taken: of a processor's, procUnpin
+	put                         func() // gives back what take has taken; a processor's handle has procUnpin
 }
 
 const mostProcessors = 256

@@ -26,20 +26,22 @@ func cMake(h *handle, c *cCall) uint32
 //go:noescape
 func cFree(h *handle, c *cCall) uint32
 
-// It asks for the asking's key with its own call, and writes what is asked.
+// cAsk asks for a.key with the call a.own. The library writes a.asked.
 //
 //go:noescape
 func cAsk(h *handle, a *asking) uint32
 
-// It writes what the handle has told.
+// cSettle settles the call a.own. The library writes h.told.
 //
 //go:noescape
 func cSettle(h *handle, a *asking) uint32
 
+// cLeave lets go of the call. The library writes h.value.
+//
 //go:noescape
 func cLeave(h *handle, c *cCall) uint32
 
-// It writes the handle's id.
+// cForget forgets the key. The library writes h.id.
 //
 //go:noescape
 func cForget(h *handle, key string) uint32
