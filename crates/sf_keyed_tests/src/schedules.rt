@@ -197,6 +197,22 @@ impl Player<'_> {
     }
 }
 
+// A number that looks random, by a linear congruence.
+fn next_state(state: u64) -> u64 {
+    state
+        .wrapping_mul(6_364_136_223_846_793_005)
+        .wrapping_add(1_442_695_040_888_963_407)
+}
+
+// A play at this chain or at one of the three behind it, as the number says. Whether all was right.
+fn play_near(alloc: Global, players: &mut Vec<Player<'_>>, at: usize, drawn: u64) -> bool {
+    let near = at.wrapping_add((drawn / 0x1000_0000 % 4) as usize);
+    match players.get_mut(near) {
+        Some(player) => player.play(alloc, drawn),
+        None => true,
+    }
+}
+
 // A thread's plays: at each chain so many, and at the four next ones too, so that threads which are somewhat ahead meet. Returns how many were
 // wrong.
 fn plays(alloc: Global, players: Vec<Player>, seed: u64) -> u64 {
@@ -205,12 +221,8 @@ fn plays(alloc: Global, players: Vec<Player>, seed: u64) -> u64 {
     let mut state = seed;
     for at in 0..players.len() {
         for _ in 0..PLAYS {
-            state = state
-                .wrapping_mul(6_364_136_223_846_793_005)
-                .wrapping_add(1_442_695_040_888_963_407);
-            let drawn = state / 0x1_0000_0000;
-            let beyond = at + (drawn / 0x1000_0000 % 4) as usize;
-            if beyond < players.len() && !players[beyond].play(alloc, drawn) {
+            state = next_state(state);
+            if !play_near(alloc, &mut players, at, state / 0x1_0000_0000) {
                 wrong = wrong.wrapping_add(1);
             }
         }
@@ -245,34 +257,54 @@ fn round(alloc: Global, chains: &[KeyedChain], boards: &[Board], seed: u64) -> u
     }
 }
 
+// Chains of two cells, of which no two have the same seeds.
+fn new_chains(alloc: Global, number: u64) -> Result<Vec<KeyedChain>, AllocError> {
+    let mut chains = Vec::with_capacity(alloc, CHAINS)?;
+    for at in 0..CHAINS {
+        chains.push(KeyedChain::new(alloc, 2, at as u64, number)?)?;
+    }
+    Ok(chains)
+}
+
+// The boards of all their keys.
+fn new_boards(alloc: Global) -> Result<Vec<Board>, AllocError> {
+    let mut boards = Vec::with_capacity(alloc, CHAINS * KEYS)?;
+    for _ in 0..CHAINS * KEYS {
+        boards.push(Board {
+            written: AtomicU64::new(0),
+            forgotten: AtomicU64::new(0),
+            told: AtomicU64::new(0),
+        })?;
+    }
+    Ok(boards)
+}
+
+// Whether of each call whose value was told the last holder has left.
+fn have_left(boards: &[Board]) -> bool {
+    for board in boards {
+        if board.told.load(SeqCst) != 0 {
+            return false;
+        }
+    }
+    true
+}
+
 #[test]
 fn chains_that_grow_give_no_old_answer(rt: HostRuntime) -> Result<(), Fail> {
     for number in 0..ROUNDS {
-        let mut chains: Vec<KeyedChain> = Vec::with_capacity(rt.alloc(), CHAINS)?;
-        let mut boards: Vec<Board> = Vec::with_capacity(rt.alloc(), CHAINS * KEYS)?;
-        for at in 0..CHAINS {
-            chains.push(KeyedChain::new(rt.alloc(), 2, at as u64, number)?)?;
-            for _ in 0..KEYS {
-                boards.push(Board {
-                    written: AtomicU64::new(0),
-                    forgotten: AtomicU64::new(0),
-                    told: AtomicU64::new(0),
-                })?;
-            }
-        }
+        let (chains, boards) = (new_chains(rt.alloc(), number)?, new_boards(rt.alloc())?);
         let seeds = vec![in rt.alloc(); 1, 2, 3, THREADS]?;
         let (alloc, chains, boards) = (rt.alloc(), chains.as_slice(), boards.as_slice());
+        let first = number.wrapping_mul(THREADS);
         let wrong = map_vec(
             &rt,
             seeds,
-            &|seed: u64| { round(alloc, chains, boards, seed + number * THREADS) },
+            &|seed: u64| { round(alloc, chains, boards, seed.wrapping_add(first)) },
         )?;
         for count in wrong {
             assert!(rt; count == 0);
         }
-        for board in boards {
-            assert!(rt; board.told.load(SeqCst) == 0);
-        }
+        assert!(rt; have_left(boards));
     }
     Ok(())
 }

@@ -6,14 +6,14 @@ use sf_keyed::{
 };
 use std::test::Fail;
 
-const TRIES: u32 = 10;
+pub(crate) const TRIES: u32 = 10;
 
-const ADA: Name = Name { low: 1, high: 3 };
+pub(crate) const ADA: Name = Name { low: 1, high: 3 };
 
-const BOB: Name = Name { low: 2, high: 3 };
+pub(crate) const BOB: Name = Name { low: 2, high: 3 };
 
 // One hash slot, so that all names meet.
-const MEETING: KeyedSizes = KeyedSizes {
+pub(crate) const MEETING: KeyedSizes = KeyedSizes {
     tops: 1,
     sides: 16,
     cells: 32,
@@ -21,7 +21,7 @@ const MEETING: KeyedSizes = KeyedSizes {
     high_seed: 0xC2B2_AE3D_27D4_EB4F,
 };
 
-fn lead(group: &KeyedGroup, me: &mut Front, name: Name) -> Option<Flight>
+pub(crate) fn lead(group: &KeyedGroup, me: &mut Front, name: Name) -> Option<Flight>
     requires { me.old.group ≡ group.now }
     ensures own { me.new.group ≡ group.now }
     ensures flight { IfSome result (λ flight. flight.group ≡ group.now) }
@@ -63,7 +63,7 @@ fn leads_alone(group: &KeyedGroup, me: &mut Front, name: Name) -> bool
 }
 
 // Whether the caller has a spare cell then.
-fn claims(group: &KeyedGroup, me: &mut Front, cell: u64) -> bool
+pub(crate) fn claims(group: &KeyedGroup, me: &mut Front, cell: u64) -> bool
     requires { me.old.group ≡ group.now }
     ensures { me.new.group ≡ group.now }
 {
@@ -106,32 +106,69 @@ fn one_leads_again_and_again(rt: HostRuntime) -> Result<(), Fail> {
     Ok(())
 }
 
+// The ticket, of a call that is not settled yet.
+fn waits(group: &KeyedGroup, me: &mut Front, ticket: Ticket) -> Option<Ticket>
+    requires { (me.old.group ≡ group.now) × (ticket.group ≡ group.now) }
+    ensures own { me.new.group ≡ group.now }
+    ensures ticket { IfSome result (λ ticket. ticket.group ≡ group.now) }
+{
+    match group.take(me, ticket) {
+        Ok(_) => None,
+        Err(back) => Some(back),
+    }
+}
+
+// Whether the call was settled with this value.
+pub(crate) fn takes(group: &KeyedGroup, me: &mut Front, ticket: Ticket, due: u64) -> bool
+    requires { (me.old.group ≡ group.now) × (ticket.group ≡ group.now) }
+    ensures { me.new.group ≡ group.now }
+{
+    match group.take(me, ticket) {
+        Ok(value) => value == due,
+        Err(_) => false,
+    }
+}
+
+// Settles the call. Whether its value is told to two, of whom one joined, and no Forget had closed it.
+pub(crate) fn tells_two(group: &KeyedGroup, me: &mut Front, flight: Flight, value: u64) -> bool
+    requires { (me.old.group ≡ group.now) × (flight.group ≡ group.now) }
+    ensures { me.new.group ≡ group.now }
+{
+    match group.settle(me, flight, value) {
+        Settled::Told(mine, on) => {
+            group.leave(me, mine);
+            on.joined && !on.forgotten && on.holders == 2
+        }
+        Settled::Alone => false,
+    }
+}
+
+// Whether the other joins a call, waits while it is open, and has its value then.
+fn joins_and_takes(group: &KeyedGroup, me: &mut Front, other: &mut Front) -> bool
+    requires { (me.old.group ≡ group.now) × (other.old.group ≡ group.now) }
+    ensures { (me.new.group ≡ group.now) × (other.new.group ≡ group.now) }
+{
+    let Some(flight) = lead(group, me, ADA) else {
+        return false;
+    };
+    let Some(ticket) = join(group, other, ADA) else {
+        return false;
+    };
+    let Some(ticket) = waits(group, other, ticket) else {
+        return false;
+    };
+    if !tells_two(group, me, flight, 7) {
+        return false;
+    }
+    takes(group, other, ticket, 7)
+}
+
 #[test]
 fn who_joins_gets_the_value_once_it_is_there(rt: HostRuntime) -> Result<(), Fail> {
     let (group, mut me) = KeyedGroup::new(rt.alloc(), MEETING)?;
     let mut other = group.another(&mut me, 1);
     assert!(rt; claims(&group, &mut me, 0));
-    let Some(flight) = lead(&group, &mut me, ADA) else {
-        panic!(rt; "no call of the name was open")
-    };
-    let Some(ticket) = join(&group, &mut other, ADA) else {
-        panic!(rt; "the name's call was open")
-    };
-    let ticket = match group.take(&mut other, ticket) {
-        Ok(_) => panic!(rt; "the call was not settled"),
-        Err(back) => back,
-    };
-    match group.settle(&mut me, flight, 7) {
-        Settled::Told(mine, on) => {
-            assert!(rt; on.joined && !on.forgotten && on.holders == 2);
-            group.leave(&mut me, mine);
-        }
-        Settled::Alone => panic!(rt; "one had joined"),
-    }
-    match group.take(&mut other, ticket) {
-        Ok(value) => assert!(rt; value == 7),
-        Err(_) => panic!(rt; "the call was settled"),
-    }
+    assert!(rt; joins_and_takes(&group, &mut me, &mut other));
     // The cell is free again.
     assert!(rt; claims(&group, &mut other, 0));
     Ok(())
@@ -163,6 +200,38 @@ fn a_cell_in_use_is_passed_over(rt: HostRuntime) -> Result<(), Fail> {
     Ok(())
 }
 
+// What a Forget of this call of the name finds.
+fn forgets(group: &KeyedGroup, me: &mut Front, name: Name, call: u64) -> Ended
+    requires { me.old.group ≡ group.now }
+    ensures { me.new.group ≡ group.now }
+{
+    group.forget_call(me, name, call, TRIES)
+}
+
+// Whether a Forget finds the open call by its name and number, and else nothing.
+fn closes(group: &KeyedGroup, me: &mut Front, call: u64) -> bool
+    requires { me.old.group ≡ group.now }
+    ensures { me.new.group ≡ group.now }
+{
+    forgets(group, me, BOB, call) == Ended::Gone
+        && forgets(group, me, ADA, 0) == Ended::Gone
+        && forgets(group, me, ADA, call) == Ended::Closed
+}
+
+// Whether another caller joins this call of the name.
+fn is_open(group: &KeyedGroup, me: &mut Front, name: Name, call: u64) -> bool
+    requires { me.old.group ≡ group.now }
+    ensures { me.new.group ≡ group.now }
+{
+    let mut other = group.another(me, 1);
+    let Some(ticket) = join(group, &mut other, name) else {
+        return false;
+    };
+    let joined = ticket.call();
+    group.leave(&mut other, ticket);
+    joined == call
+}
+
 #[test]
 fn a_forget_of_one_call_leaves_the_next_open(rt: HostRuntime) -> Result<(), Fail> {
     let (group, mut me) = KeyedGroup::new(rt.alloc(), MEETING)?;
@@ -171,20 +240,12 @@ fn a_forget_of_one_call_leaves_the_next_open(rt: HostRuntime) -> Result<(), Fail
         panic!(rt; "no call of the name was open")
     };
     let old = first.call();
-    assert!(rt; group.forget_call(&mut me, BOB, old, TRIES) == Ended::Gone);
-    assert!(rt; group.forget_call(&mut me, ADA, 0, TRIES) == Ended::Gone);
-    assert!(rt; group.forget_call(&mut me, ADA, old, TRIES) == Ended::Closed);
-    assert!(rt; claims(&group, &mut me, 1));
+    assert!(rt; closes(&group, &mut me, old) && claims(&group, &mut me, 1));
     let Some(second) = lead(&group, &mut me, ADA) else {
         panic!(rt; "the name's call was closed")
     };
-    assert!(rt; group.forget_call(&mut me, ADA, old, TRIES) == Ended::Gone);
-    let mut other = group.another(&mut me, 1);
-    let Some(ticket) = join(&group, &mut other, ADA) else {
-        panic!(rt; "the newer call was open")
-    };
-    assert!(rt; ticket.call() == second.call());
-    group.leave(&mut other, ticket);
+    assert!(rt; forgets(&group, &mut me, ADA, old) == Ended::Gone);
+    assert!(rt; is_open(&group, &mut me, ADA, second.call()));
     group.settle(&mut me, first, 1);
     group.settle(&mut me, second, 2);
     Ok(())
