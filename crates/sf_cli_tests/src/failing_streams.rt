@@ -48,16 +48,13 @@ fn is_read(
     };
     let ended = engine.start(alloc, &mut reader, &mut written);
     assert!(rt; reader.reads == fails_at.min(4), "another number of reads");
-    if fails_at <= 4 {
-        assert!(rt;
-            matches!(ended, Err(StreamFault::CannotRead)),
-            "it is not said"
-        );
-        assert!(rt; written.is_empty(), "something is written");
+    let (due, answer) = if fails_at <= 4 {
+        (Err(StreamFault::CannotRead), "")
     } else {
-        assert!(rt; matches!(ended, Ok(Ending::Answered)), "it ends otherwise");
-        assert!(rt; written.as_slice() == answer.as_bytes(), "another answer");
-    }
+        (Ok(Ending::Answered), answer)
+    };
+    assert!(rt; ended == due, "it ends otherwise");
+    assert!(rt; written.as_slice() == answer.as_bytes(), "another answer");
 }
 
 fn reads_fail(rt: &impl Abort, alloc: Global, engine: Engine, input: &str, answer: &str) {
@@ -120,8 +117,17 @@ impl Write for FailingWriter {
     }
 }
 
+// All of the answer is written and handed on, which takes more than four calls.
+fn is_handed_on(rt: &impl Abort, writer: &FailingWriter, answer: &str) {
+    assert!(rt;
+        writer.flushed && writer.fails_at > 4,
+        "it is not handed on"
+    );
+    assert!(rt; writer.written.len() == answer.len(), "not all is written");
+}
+
 // Writes the answer to a writer that fails at this call: a beginning of it is written, and that is said. Where no call fails all is
-// written and handed on. Answers take more than four calls.
+// written and handed on.
 fn is_written(
     rt: &impl Abort,
     alloc: Global,
@@ -138,24 +144,19 @@ fn is_written(
         flushed: false,
     };
     let ended = engine.start(alloc, &mut input.as_bytes(), &mut writer);
-    let written = writer.written.as_slice();
     assert!(rt;
-        answer.as_bytes().starts_with(written),
+        answer.as_bytes().starts_with(writer.written.as_slice()),
         "no beginning is written"
     );
     if writer.calls >= fails_at {
+        let is_said = ended == Err(StreamFault::CannotWrite);
         assert!(rt;
-            matches!(ended, Err(StreamFault::CannotWrite)),
-            "it is not said"
+            is_said && writer.calls == fails_at,
+            "it is not said, or it goes on"
         );
-        assert!(rt; writer.calls == fails_at, "it goes on");
     } else {
-        assert!(rt;
-            matches!(ended, Ok(ending) if ending == due),
-            "it ends otherwise"
-        );
-        assert!(rt; writer.flushed && fails_at > 4, "it is not handed on");
-        assert!(rt; written.len() == answer.len(), "not all is written");
+        assert!(rt; ended == Ok(due), "it ends otherwise");
+        is_handed_on(rt, &writer, answer);
     }
 }
 

@@ -1,11 +1,10 @@
-//! The world step by step, and a schedule that is played. What schedules print, and which turns they refuse, is tested by `.ci/cases`.
+//! The world step by step. What schedules print, and which turns they refuse, is tested by `.ci/cases`.
 
 use sf_steps::{Op, World, laws};
-use sf_steps_text::{ScheduleRefusal, play, step_text, trace_text};
+use sf_steps_text::step_text;
 use sf_text::Outcome;
 use std::alloc::Global;
 use std::process::Abort;
-use std::test::Fail;
 
 // The caller asks for place 1.
 fn asks(rt: &impl Abort, world: &mut World<Outcome>, caller: u32) {
@@ -15,17 +14,15 @@ fn asks(rt: &impl Abort, world: &mut World<Outcome>, caller: u32) {
 }
 
 // The caller makes its next step, which prints this.
-fn prints(
-    rt: &impl Abort,
-    alloc: Global,
-    world: &mut World<Outcome>,
-    caller: u32,
-    due: &str,
-) -> Result<(), Fail> {
+fn prints(rt: &impl Abort, alloc: Global, world: &mut World<Outcome>, caller: u32, due: &str) {
     assert!(rt; world.may_step(caller), "it has no operation");
-    let step = world.step(caller)?;
-    assert!(rt; step_text(alloc, &step)?.as_str() == due, "another step");
-    Ok(())
+    let Ok(step) = world.step(caller) else {
+        panic!(rt; "no memory")
+    };
+    let Ok(text) = step_text(alloc, &step) else {
+        panic!(rt; "no memory")
+    };
+    assert!(rt; text.as_str() == due, "another step");
 }
 
 // The caller leaves its asking, whose exchange failed, and begins a Forget.
@@ -37,44 +34,43 @@ fn leaves(rt: &impl Abort, world: &mut World<Outcome>, caller: u32) {
     world.start(caller, op);
 }
 
+// A world of two callers and one place.
+fn new_world(rt: &impl Abort, alloc: Global) -> World<Outcome> {
+    let Ok(world) = World::new(alloc, 2, 1) else {
+        panic!(rt; "no memory")
+    };
+    assert!(rt; world.callers() == 2 && world.places() == 1);
+    let beyond = world.may_start(1, &Op::Ask { place: 2 })
+        || world.may_start(2, &Op::Named { place: 2 });
+    assert!(rt; !beyond, "it has another place");
+    world
+}
+
+// The first leads. It has no step left then.
+fn leads(rt: &impl Abort, alloc: Global, world: &mut World<Outcome>) {
+    prints(rt, alloc, world, 1, "1 ready 1.1 open\n");
+    prints(rt, alloc, world, 1, "1 lead 1 1.1 yes\n= lead 1 1.1\n");
+    assert!(rt; !world.may_step(1), "it has a step left");
+}
+
+// The second comes too late, and may leave then alone.
+fn comes_late(rt: &impl Abort, alloc: Global, world: &mut World<Outcome>) {
+    prints(rt, alloc, world, 2, "2 ready 2.1 open\n");
+    assert!(rt; !world.may_leave(2), "it may leave before");
+    prints(rt, alloc, world, 2, "2 lead 1 2.1 no\n");
+    leaves(rt, world, 2);
+}
+
 // Both look at the only place, and the first leads; the second comes too late, and leaves.
 #[test]
-fn worlds_step(rt: HostRuntime) -> Result<(), Fail> {
-    let alloc = rt.alloc();
-    let mut world: World<Outcome> = World::new(alloc, 2, 1)?;
-    assert!(rt; world.callers() == 2 && world.places() == 1);
-    assert!(rt; !world.may_start(1, &Op::Ask { place: 2 }));
-    assert!(rt; !world.may_start(2, &Op::Named { place: 2 }));
+fn worlds_step(rt: HostRuntime) {
+    let mut world = new_world(&rt, rt.alloc());
     asks(&rt, &mut world, 1);
     asks(&rt, &mut world, 2);
-    prints(&rt, alloc, &mut world, 1, "1 look 1 0\n")?;
-    prints(&rt, alloc, &mut world, 2, "2 look 1 0\n")?;
-    prints(&rt, alloc, &mut world, 1, "1 ready 1.1 open\n")?;
-    let leads = "1 lead 1 1.1 yes\n= lead 1 1.1\n";
-    prints(&rt, alloc, &mut world, 1, leads)?;
-    assert!(rt; !world.may_step(1));
-    prints(&rt, alloc, &mut world, 2, "2 ready 2.1 open\n")?;
-    assert!(rt; !world.may_leave(2));
-    prints(&rt, alloc, &mut world, 2, "2 lead 1 2.1 no\n")?;
-    leaves(&rt, &mut world, 2);
-    Ok(())
-}
-
-#[test]
-fn idle_forget_clears_a_settled_call(rt: HostRuntime) -> Result<(), Fail> {
-    let schedule = b"do 1 ask 1\nstep 1 3\ndo 1 settle ok v\nstep 1 2\ndo 2 forget 1\nstep 2 3\n";
-    let trace = play(rt.alloc(), schedule)?;
-    assert!(rt; trace.steps.len() == 8);
-    let text = trace_text(rt.alloc(), &trace.steps.as_slice()[5..])?;
-    let due = "2 look 1 1.1\n2 peek 1.1 done 0\n2 clear 1 1.1 yes\n= forget 1 idle\n";
-    assert!(rt; text.as_str() == due, "other steps");
-    Ok(())
-}
-
-#[test]
-fn line_with_no_turn_is_refused(rt: HostRuntime) {
-    let refused = play(rt.alloc(), b"do 1 ask 1\ndrop 1\n");
-    assert!(rt; matches!(&refused, Err(ScheduleRefusal::BadSchedule(2))));
+    prints(&rt, rt.alloc(), &mut world, 1, "1 look 1 0\n");
+    prints(&rt, rt.alloc(), &mut world, 2, "2 look 1 0\n");
+    leads(&rt, rt.alloc(), &mut world);
+    comes_late(&rt, rt.alloc(), &mut world);
 }
 
 #[test]

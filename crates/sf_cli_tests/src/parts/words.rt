@@ -174,14 +174,16 @@ fn no_word_says_what_is_out_of_range(rt: HostRuntime) {
     assert!(rt; NextWord::new(Some(LARGEST_CALLER + 1)).is_none());
 }
 
+// Whether the place of this number has this index, or whether there is none.
+fn has_index(number: u32, due: Option<usize>) -> bool {
+    PlaceNo::new(number).map(PlaceNo::index) == due
+}
+
 #[test]
 fn places_are_numbered_from_one(rt: HostRuntime) -> Result<(), AllocError> {
     assert!(rt; LARGEST_PLACE == 1_048_576);
-    assert!(rt; PlaceNo::new(0).is_none());
-    assert!(rt; PlaceNo::new(LARGEST_PLACE + 1).is_none());
-    let largest = PlaceNo::new(LARGEST_PLACE).map(PlaceNo::index);
-    assert!(rt; largest == Some(1_048_575));
-
+    assert!(rt; has_index(0, None) && has_index(LARGEST_PLACE + 1, None));
+    assert!(rt; has_index(1, Some(0)) && has_index(LARGEST_PLACE, Some(1_048_575)));
     let first = PlaceNo::from_index(0);
     assert!(rt; PlaceNo::new(1) == Some(first) && first.number() == 1);
     let last = PlaceNo::from_index(1_048_575);
