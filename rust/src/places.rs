@@ -168,6 +168,10 @@ impl Places {
         Places(places)
     }
 
+    pub(crate) fn count(&self) -> usize {
+        self.0.len()
+    }
+
     /// Runs with a handle.
     #[inline]
     pub(crate) fn with<R>(&self, run: impl FnOnce(&mut Seat) -> R) -> R {

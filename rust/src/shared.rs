@@ -22,6 +22,7 @@ use crate::post::{Posts, Told};
 use crate::recording::{Noted, Recordings};
 use crate::sync::{at, pause, point};
 use crate::{Call, Error, ForgetOutcome, Loaded, Stamp};
+use std::sync::atomic::{AtomicU64, Ordering::Relaxed};
 use std::sync::{Arc, Mutex};
 
 pub(crate) struct Shared<T> {
@@ -30,6 +31,8 @@ pub(crate) struct Shared<T> {
     /// Makes the tables, so it knows them all. The other handles look for the next table before they
     /// say that there is no room.
     grower: Mutex<Handle>,
+    /// How many calls can be open at a time, as the grower knows.
+    cells: AtomicU64,
     pub(crate) recordings: Arc<Recordings>,
 }
 
@@ -51,8 +54,9 @@ impl<T> Shared<T> {
     pub(crate) fn open(cells: u32) -> Result<Self, Error> {
         let mut grower = Handle::open(cells)?;
         let places = Places::new(grower.split().ok_or(Error::OutOfMemory)?);
+        let cells = grower.measure().cells.into();
         let grower = Mutex::new(grower);
-        Ok(Shared { places, posts: Posts::new(), grower, recordings: Arc::default() })
+        Ok(Shared { places, posts: Posts::new(), grower, cells, recordings: Arc::default() })
     }
 
     /// Asks for the key. Returns the call that the asker has joined, or none where it has to load: for
@@ -74,15 +78,15 @@ impl<T> Shared<T> {
                     Asked::Joined => seat.joins += 1,
                     _ => seat.put(asker.lead.take()),
                 }
-                Some((asked, seat.loads))
+                Some((asked, seat.loads % EARLY == 0 && self.may_be_half_taken(seat)))
             });
             let locked = locked.filter(|_| matches!(asked, Some((Asked::Led, _))));
             asker.value = locked.and_then(|locked| locked.leads(asker.name.id));
             match asked {
-                Some((Asked::Led, loads)) => {
+                Some((Asked::Led, is_early)) => {
                     at("asked");
                     asker.record = noted.and_then(|noted| noted.record(key, asker.name.id));
-                    if loads % EARLY == 0 {
+                    if is_early {
                         self.grow(true);
                     }
                     return Ok(None);
@@ -113,7 +117,17 @@ impl<T> Shared<T> {
         if is_early && self.places.stats().in_use <= grower.measure().cells / 2 {
             return true;
         }
-        grower.grow()
+        let has_room = grower.grow();
+        self.cells.store(grower.measure().cells, Relaxed);
+        has_room
+    }
+
+    /// Whether half of the room may be taken, by what one place knows: where it is, some place leads more
+    /// calls than its share of that half. To look at all places takes them from those who use them.
+    fn may_be_half_taken(&self, seat: &Seat) -> bool {
+        let leading = seat.loads.wrapping_sub(seat.settles) as i64;
+        let cells = self.cells.load(Relaxed) as i64;
+        leading.saturating_mul(2 * self.places.count() as i64) > cells
     }
 
     /// Settles the call that is led, if one is, with what its load came to, or without a value, and
@@ -244,4 +258,19 @@ impl<T> Drop for Shared<T> {
     fn drop(&mut self) {
         self.recordings.close();
     }
+}
+
+#[cfg(sflight_library)]
+#[test]
+fn a_group_grows_before_it_is_full() {
+    let group = crate::Group::<u64>::new();
+    let cells = || group.shared.cells.load(Relaxed);
+    let load = || (0..2 * EARLY).for_each(|it| drop(group.get_or_load("key", || it)));
+    let before = cells();
+    load();
+    assert_eq!(cells(), before, "with one load at a time");
+    let jobs: Vec<_> = (0..=before / 2).map(|key| group.subscribe(key.to_be_bytes())).collect();
+    load();
+    assert!(cells() > before, "with half of the room taken");
+    drop(jobs);
 }
