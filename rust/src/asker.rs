@@ -168,10 +168,13 @@ impl<T> Asker<T> {
 
 // Is pending once, and wakes itself.
 async fn yield_now() {
-    let mut polls = [Poll::Pending, Poll::Ready(())].into_iter();
+    let mut is_over = false;
     poll_fn(|context| {
         context.waker().wake_by_ref();
-        polls.next().expect("nobody polls it again")
+        match std::mem::replace(&mut is_over, true) {
+            true => Poll::Ready(()),
+            false => Poll::Pending,
+        }
     })
     .await
 }

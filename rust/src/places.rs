@@ -168,6 +168,7 @@ impl Places {
         Places(places)
     }
 
+    /// How many there are.
     pub(crate) fn count(&self) -> usize {
         self.0.len()
     }
