@@ -115,7 +115,6 @@ func NewCacheOf[K comparable, V any](
 		return nil, fmt.Errorf("%w: a limit of %d", ErrSize, limit)
 	}
 	size := defaultSizes()
-	size.cache.lives.clock = bothClocks
 	for _, option := range options {
 		option(&size)
 	}
@@ -214,25 +213,36 @@ func (c *Cache[K, V]) GetWith(ctx context.Context, key K, load LoadFunc[K, V]) (
 func (c *Cache[K, V]) get(ctx context.Context, key K, load LoadFunc[K, V]) (V, error) {
 	f, print := c.now.Load(), c.printOf(key)
 	if f.p.recorder.Load() == nil {
-		if n, is := f.values.hit(key, print, &c.tally); is >= isFresh {
+		n, is := f.values.hit(key, print, &c.tally)
+		if is >= isFresh {
 			if is == isDue {
 				c.refresh(ctx, f, n, load)
 			}
 			return n.result()
 		}
+		if is == isNothing {
+			return c.missed(ctx, f, key, print, load, nil, 0)
+		}
 	}
 	w := f.p.watch()
 	n, isDue, gone := f.values.look(key, print, w, &c.tally)
 	if n == nil {
-		c.tally.missed()
-		n, err := c.miss(ctx, f, key, print, load, gone, w.from)
-		return valueOf(n), err
+		return c.missed(ctx, f, key, print, load, gone, w.from)
 	}
 	w.hit(n.record())
 	if isDue {
 		c.refresh(ctx, f, n, load)
 	}
 	return n.result()
+}
+
+// missed is the rest of a Get that has found nothing.
+func (c *Cache[K, V]) missed(
+	ctx context.Context, f *fill[K, V], key K, print uint32, load LoadFunc[K, V], gone *node[K, V], from int64,
+) (V, error) {
+	c.tally.missed()
+	n, err := c.miss(ctx, f, key, print, load, gone, from)
+	return valueOf(n), err
 }
 
 // valueOf returns the value of a node, or none of none.
@@ -392,7 +402,7 @@ type Token[K comparable] struct {
 
 // Token returns a token of the key for PutWith, to be drawn before the write.
 func (c *Cache[K, V]) Token(key K) Token[K] {
-	t := Token[K]{key: key, print: c.printOf(key), tags: c.room.tags.clock.Load(), born: c.room.lives.clock()}
+	t := Token[K]{key: key, print: c.printOf(key), tags: c.room.tags.clock.Load(), born: c.room.lives.now()}
 	t.fill = pointer(c.now.Load())
 	t.begun = c.room.begunOf(t.print).Load()
 	return t

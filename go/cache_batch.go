@@ -258,7 +258,7 @@ func (b *batch[K, V]) loads(ctx context.Context, keys []K) {
 			rec.begins()
 		}
 	}
-	born, began := b.c.room.lives.clock(), b.c.room.tags.clock.Load()
+	born, began := b.c.room.lives.now(), b.c.room.tags.clock.Load()
 	values, err := b.call(ctx, keys, born)
 	for _, k := range b.led {
 		if k.isOver {
@@ -286,7 +286,7 @@ func (b *batch[K, V]) call(ctx context.Context, keys []K, born instant) (map[K]L
 	}
 	failed := true
 	defer func() {
-		b.took = b.c.since(born)
+		b.took = b.c.room.lives.since(born.steady)
 		counts.timed(b.took)
 		for _, k := range b.led {
 			if failed && !k.isOver {

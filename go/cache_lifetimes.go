@@ -15,7 +15,7 @@ type lifetimes struct {
 	refresh  time.Duration
 	stale    time.Duration
 	errorTTL func(error) time.Duration
-	clock    func() instant
+	clock    func() instant // that of WithClock
 }
 
 // A moment by the steady clock and by the wall clock, in nanoseconds.
@@ -28,7 +28,20 @@ var started = time.Now()
 
 func instantOf(t time.Time) instant { return instant{int64(t.Sub(started)), t.UnixNano()} }
 
-func bothClocks() instant { return instantOf(time.Now()) }
+func (l *lifetimes) now() instant {
+	if l.clock != nil {
+		return l.clock()
+	}
+	return instantOf(time.Now())
+}
+
+// since returns how long ago that was, by the steady clock. It does not read the other one, since each reading takes 20 ns.
+func (l *lifetimes) since(steady int64) time.Duration {
+	if l.clock != nil {
+		return time.Duration(l.clock().steady - steady)
+	}
+	return time.Since(started) - time.Duration(steady)
+}
 
 // instantOfAny is instantOf for the clock of a test, which may be more than 292 years off: at the zero Time, say. Sub gives no more.
 func instantOfAny(t time.Time) instant {

@@ -3,7 +3,6 @@ package singleflight
 import (
 	"context"
 	"errors"
-	"time"
 )
 
 // A loading is one load of a key: for a Get that missed it, or to replace an old value.
@@ -86,14 +85,14 @@ func (l *loading[K, V]) run(ctx context.Context, a *asking) (any, error) {
 		counts.refreshes.Add(1)
 	}
 	counts.loads.Add(1)
-	born := c.room.lives.clock()
+	born := c.room.lives.now()
 	if c.cost != nil {
 		// A Put may ask for its cost meanwhile, until this load has ended.
 		c.room.begunOf(l.print).Add(1)
 	}
 	failed := true
 	defer func() {
-		counts.timed(c.since(born))
+		counts.timed(c.room.lives.since(born.steady))
 		if failed {
 			counts.errors.Add(1)
 		}
@@ -137,11 +136,6 @@ func (l *loading[K, V]) standIn(ctx context.Context, a *asking) *node[K, V] {
 			return n
 		}
 	}
-}
-
-// since returns how long ago that was, by the steady clock.
-func (c *Cache[K, V]) since(born instant) time.Duration {
-	return time.Duration(c.room.lives.clock().steady - born.steady)
 }
 
 // answer is a node as the result of a call.

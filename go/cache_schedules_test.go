@@ -540,6 +540,9 @@ func TestSchedulesOfLooksWhileItGrows(t *testing.T) {
 			}
 		}()
 		looks++
+		if _, is := table.hit(key, c.printOf(key), &c.tally); is == isNothing {
+			t.Error("a Get loads it again", key)
+		}
 		if n := table.find(key, c.printOf(key)); n == nil || n.key != key {
 			t.Error("it is not found", key)
 		}

@@ -315,13 +315,17 @@ func (s *valueShard[K, V]) find(key K, print uint32) *node[K, V] {
 	}
 }
 
+// hasMoved tells whether nodes may have moved since the version was this.
+func (s *valueShard[K, V]) hasMoved(version uint32) bool {
+	return version&1 != 0 || version != s.version.Load()
+}
+
 // find returns the key's node, whether current or not, as it is in its shard.
 func (t *values[K, V]) find(key K, print uint32) *node[K, V] {
 	s := t.shard(print)
 	version := s.version.Load()
 	n := s.find(key, print)
-	if n == nil && (version&1 != 0 || version != s.version.Load()) {
-		// Nodes have moved meanwhile.
+	if n == nil && s.hasMoved(version) {
 		acquire(&s.mu)
 		n = s.find(key, print)
 		s.mu.Unlock()
@@ -364,7 +368,7 @@ func (t *values[K, V]) stateOf(n *node[K, V], by *tally) (is state, steady time.
 // stageOf returns the state of a node that has a life and is current, and its age.
 func (t *values[K, V]) stageOf(n *node[K, V]) (is state, steady time.Duration) {
 	l := &t.room.lives
-	age, steady := n.age(l.clock())
+	age, steady := n.age(l.now())
 	switch past := n.past(age, l); {
 	case past >= l.stale, past >= 0 && n.isError():
 		return isExpired, steady
@@ -376,12 +380,17 @@ func (t *values[K, V]) stageOf(n *node[K, V]) (is state, steady time.Duration) {
 	return isFresh, steady
 }
 
-// hit is look for a fill that nobody records. It returns the key's node and its state, takes no node out, and misses one that moves. So
-// a Get that gets no fresh node from it calls look.
+// hit is look for a fill that nobody records. It returns the key's node and its state, and takes no node out. It is isNothing where there is no
+// node, and isForgotten where it may have missed one that moved. A Get that gets neither a fresh node from it nor isNothing calls look.
 func (t *values[K, V]) hit(key K, print uint32, by *tally) (n *node[K, V], is state) {
-	n = t.shard(print).find(key, print)
+	s := t.shard(print)
+	version := s.version.Load()
+	n = s.find(key, print)
 	if n == nil {
-		return nil, isNothing
+		if s.hasMoved(version) {
+			is = isForgotten
+		}
+		return nil, is
 	}
 	if n.extras != nil {
 		return n, t.found(n, by)
