@@ -1,7 +1,7 @@
 //! Names of keys: a short key is its own name, a longer one has a keyed digest.
-ghost use Rattle.std.specs.Prelude.{◌≡◌, ◌≤◌, ◌<◌, length};
+ghost use Rattle.std.specs.Prelude.{◌≡◌, ◌+◌, ◌*◌, ◌≤◌, ◌<◌, length, drop};
 ghost use Rattle.sf_keyed_words.specs.Rule.{number};
-ghost use Rattle.sf_keyed.specs.Names.{short_name as the_short_name};
+ghost use Rattle.sf_keyed.specs.Names.{packed, short_name as the_short_name};
 ghost use Rattle.sf_keyed.specs.Names.{long_name as the_long_name};
 ghost use Rattle.sf_keyed.specs.Names.{ShortKeysApart, ShortNamesBelowLongOnes};
 
@@ -61,19 +61,48 @@ impl Names {
     }
 }
 
+// The number of the first eight bytes, which one load reads.
+fn eight(key: &[u8]) -> u64
+    requires { 8 ≤ length key.now }
+    ensures { packed key.now ≡ result + 18446744073709551616 * packed (drop 8 key.now) }
+{
+    key[0] as u64
+        + key[1] as u64 * 0x100
+        + key[2] as u64 * 0x1_0000
+        + key[3] as u64 * 0x100_0000
+        + key[4] as u64 * 0x1_0000_0000
+        + key[5] as u64 * 0x100_0000_0000
+        + key[6] as u64 * 0x1_0000_0000_0000
+        + key[7] as u64 * 0x100_0000_0000_0000
+}
+
+// The number of the bytes from this one on, of which there are at most seven.
+fn few(key: &[u8], from: usize) -> u64
+    requires { (from ≤ length key.now) × (length key.now ≤ from + 7) }
+    ensures { (result ≡ packed (drop from key.now)) × (result < 72057594037927936) }
+{
+    let mut bytes = 0u64;
+    for at in 0..key.len() - from {
+        bytes = bytes * 256 + key[key.len() - 1 - at] as u64;
+    }
+    bytes
+}
+
 // A key's bytes, and above them its length.
 fn short_name(key: &[u8]) -> Name
     requires { length key.now ≤ 15 }
     ensures { number result ≡ the_short_name key.now }
 {
-    let mut bytes = 0u128;
-    for at in 0..key.len() {
-        bytes = bytes * 256 + key[key.len() - 1 - at] as u128;
+    let length = key.len() as u64 * 0x0100_0000_0000_0000;
+    if key.len() < 8 {
+        return Name {
+            low: few(key, 0),
+            high: length,
+        };
     }
-    let name = bytes + key.len() as u128 * 0x0100_0000_0000_0000_0000_0000_0000_0000;
     Name {
-        low: (name % 0x1_0000_0000_0000_0000) as u64,
-        high: (name / 0x1_0000_0000_0000_0000) as u64,
+        low: eight(key),
+        high: few(key, 8) + length,
     }
 }
 
