@@ -126,8 +126,7 @@ static inline int played_unlock(pthread_mutex_t *lock) {
 static inline unsigned *wakes_of(const void *word, unsigned bit) { return &play.wakes[(uintptr_t)word / 64 % WAKES][bit]; }
 
 /* A futex. Every other schedule wakes threads for no reason; in the rest one that nobody wakes sleeps. */
-static inline long played_syscall(long number, void *at, int what, unsigned value, const struct timespec *deadline, void *other, unsigned which) {
-    (void)number;
+static inline long played_futex(void *at, int what, unsigned value, const struct timespec *deadline, void *other, unsigned which) {
     if (actor < 0) return (syscall)(SYS_futex, at, what, value, deadline, other, which);
     if ((what & FUTEX_CMD_MASK) == FUTEX_WAKE_BITSET) {
         point(false);
@@ -149,6 +148,13 @@ static inline long played_syscall(long number, void *at, int what, unsigned valu
     } while (!is_late && play.number % 2 == 0 && *wakes_of(at, bit) == before);
     errno = ETIMEDOUT;
     return is_late ? -1 : 0;
+}
+
+/* Actors run one after the other: they have no need of a fence. Every third schedule is of a system that has none, and another third of
+ * one that refuses it now and then. */
+static inline long played_membarrier(void) {
+    point(false);
+    return play.number % 3 == 0 || (play.number % 3 == 1 && random_below(4) == 0) ? -1 : 0;
 }
 
 static inline int played_nanosleep(const struct timespec *time, struct timespec *left) {
@@ -195,7 +201,9 @@ static inline ssize_t played_random(void *to, size_t size, unsigned flags) {
 #define sched_yield played_yield
 #define nanosleep played_nanosleep
 #define getrandom played_random
-#define syscall(...) played_syscall(__VA_ARGS__)
+#define syscall(number, ...) played_##number(__VA_ARGS__)
+#define played_SYS_futex played_futex
+#define played_SYS_membarrier(...) played_membarrier()
 
 /* The points in the code, by which a test lets an actor wait. */
 #define SFLIGHT_POINT(where) point_at(where)
