@@ -66,6 +66,9 @@
 #include <sys/syscall.h>
 #include <unistd.h>
 
+/* A function that few hits call: in line it would make those longer that all of them call. */
+#define APART __attribute__((noinline))
+
 /* A step between two that other threads may see. Tests stop threads here. */
 #ifndef SFLIGHT_POINT
 #define SFLIGHT_POINT(where) ((void)0)
@@ -484,7 +487,7 @@ static inline bool let_go(sflight_cache *c, struct hold *place) {
 
 /* Goes on with the entries that wait for the place. It may call functions of the program: after it the place may be in use
  * again, and the seat may be another thread's. */
-static void collect(sflight_cache *c, struct hold *place) { leave_unheld(c, take_owed(place, NULL)); }
+APART static void collect(sflight_cache *c, struct hold *place) { leave_unheld(c, take_owed(place, NULL)); }
 
 static uint64_t bit_of(uintptr_t entry) { return (uint64_t)1 << (entry * 0x9e3779b97f4a7c15u >> 58); }
 
@@ -597,13 +600,18 @@ static enum worth state_by_time(sflight_cache *c, struct sflight_entry *e, const
     return is_value && c->options.refresh_after > 0 && age >= c->options.refresh_after ? DUE : FRESH;
 }
 
-/* What the entry is, where `is_still` says whether no Forget of its key has ended it. An entry without a
- * lifetime reads no clock. */
-static enum worth state_of(sflight_cache *c, struct sflight_entry *e, bool is_still, struct moment *now) {
-    if (!is_still || !are_tags_still(c, e)) return GONE;
+/* What an entry is with tags, a lifetime, or both. Without a lifetime it reads no clock. */
+static enum worth state_by_parts(sflight_cache *c, struct sflight_entry *e, struct moment *now) {
+    if (!are_tags_still(c, e)) return GONE;
     if (!(e->has & HAS_LIFE)) return FRESH;
     *now = now_of(c);
     return state_by_time(c, e, now);
+}
+
+/* What the entry is, where `is_still` says whether no Forget of its key has ended it. */
+static inline enum worth state_of(sflight_cache *c, struct sflight_entry *e, bool is_still, struct moment *now) {
+    if (!is_still) return GONE;
+    return e->has & (HAS_TAGS | HAS_LIFE) ? state_by_parts(c, e, now) : FRESH;
 }
 
 static enum worth state_now(sflight_cache *c, struct sflight_entry *e) {
@@ -860,7 +868,7 @@ enum { NOT_THERE = -1 };
 
 /* Finds the value of the key with the lock of its shard. Returns HIT, or the code of a kept failure; or
  * NOT_THERE. What nobody will find any more leaves. */
-static int look_locked(sflight_cache *c, uint64_t hash, const uint8_t *key, size_t len, bool counts, sflight_value *value, struct noted *noted) {
+APART static int look_locked(sflight_cache *c, uint64_t hash, const uint8_t *key, size_t len, bool counts, sflight_value *value, struct noted *noted) {
     struct shard *s = shard_of(c, hash);
     struct sflight_entry *left = NULL;
     struct moment now = {0, 0};
@@ -1464,8 +1472,8 @@ static int get_apart(struct getting *of, const sflight_cache_how *how, const str
 static const sflight_cache_how plain;
 
 /* Gets a key that was missed. */
-static int get_missing(sflight_cache *c, uint64_t hash, const uint8_t *key, size_t len, const sflight_cache_how *how,
-                       const struct timespec *deadline, sflight_value *value, const struct noted *noted) {
+APART static int get_missing(sflight_cache *c, uint64_t hash, const uint8_t *key, size_t len, const sflight_cache_how *how,
+                             const struct timespec *deadline, sflight_value *value, const struct noted *noted) {
     uint64_t clock = atomic_load(&c->clock);
     for (int code = NOT_THERE;;) {
         struct getting g = {.cache = c, .key = key, .len = len, .hash = hash, .doing.noted.from = from_of(noted)};
