@@ -74,6 +74,11 @@
 #define SFLIGHT_POINT(where) ((void)0)
 #endif
 
+/* A store that other threads may see after a later load of this one. Tests have them see it late. */
+#ifndef SFLIGHT_STORE
+#define SFLIGHT_STORE(at, to) atomic_store_explicit(at, to, memory_order_release)
+#endif
+
 enum {
     SHARDS = 16,
     ENTRIES_PER_SHARD = 256, /* at least, or there is one shard */
@@ -478,11 +483,12 @@ static inline bool let_go(sflight_cache *c, struct hold *place) {
         atomic_store(&place->entry, FREE_PLACE);
         return atomic_load(&place->owed) != NULL;
     }
-    atomic_store_explicit(&place->entry, FREE_PLACE, memory_order_release);
-    SFLIGHT_POINT("let go");
+    SFLIGHT_STORE(&place->entry, FREE_PLACE);
     /* The compiler keeps this order, and fence_all has the processor keep it. */
     atomic_signal_fence(memory_order_seq_cst);
-    return atomic_load_explicit(&place->owed, memory_order_relaxed) != NULL;
+    bool is_owed = atomic_load_explicit(&place->owed, memory_order_relaxed) != NULL;
+    SFLIGHT_POINT("let go");
+    return is_owed;
 }
 
 /* Goes on with the entries that wait for the place. It may call functions of the program: after it the place may be in use

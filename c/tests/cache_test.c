@@ -910,14 +910,15 @@ static void test_unfenced(void) {
 }
 
 /* One thread releases a value while another forgets it: one of the two drops it. */
-enum { LINES = 6, RELEASES = GETS / 3 };
+enum { LINES = 6, RELEASES = GETS / 10, LONGEST_WAIT = 1 << 14, LONGEST_TIME = 3 };
 static struct { _Alignas(CACHE_LINE) atomic_uint word; } lines[LINES];
-static atomic_uint released_round, forgotten_round;
+static atomic_uint ready_round, released_round, forgotten_round, last_round;
 
 static void *forgets_each(void *cache) {
-    for (unsigned round = 1; round <= RELEASES; round++) {
+    for (unsigned round = 1; round <= atomic_load(&last_round); round++) {
         for (int i = 0; i < LINES; i++) atomic_store_explicit(&lines[i].word, round, memory_order_relaxed);
-        while (atomic_load(&released_round) != round) sched_yield();
+        atomic_store(&ready_round, round);
+        for (unsigned i = 0; atomic_load(&released_round) != round; i++) if (i > LONGEST_WAIT) sched_yield();
         forget_text(cache, "ada");
         atomic_store(&forgotten_round, round);
     }
@@ -930,12 +931,17 @@ static void test_released_as_it_leaves(bool is_fenced) {
     pthread_t thread;
     unsigned state = 1, late = 0, wait = 0;
     if (is_fenced) atomic_store(&cache->is_fenced, true);
-    released_round = forgotten_round = 0;
+    ready_round = released_round = forgotten_round = 0;
+    last_round = RELEASES;
+    time_t end = time(NULL) + LONGEST_TIME;
     if (pthread_create(&thread, NULL, forgets_each, cache)) abort();
-    for (unsigned round = 1; round <= RELEASES; round++) {
+    for (unsigned round = 1; round <= last_round; round++) {
         sflight_value value;
+        if (time(NULL) > end) last_round = round;
         get_text(cache, "ada");
         if (sflight_cache_get(cache, (const uint8_t *)"ada", 3, &value) != SFLIGHT_CACHE_HIT || !value.hold) abort();
+        /* Both run now, if there are two processors. */
+        while (atomic_load(&ready_round) != round) sched_yield();
         atomic_store(&released_round, round);
         for (unsigned i = 0; i < wait; i++) atomic_signal_fence(memory_order_seq_cst);
         /* The other processor has these lines: what the release writes is seen after them. */
@@ -943,7 +949,7 @@ static void test_released_as_it_leaves(bool is_fenced) {
         sflight_cache_release(cache, &value);
         /* It is sooner next time where it came after the Forget, and else later: so the two meet. */
         unsigned step = (state = state * 1664525 + 1013904223) >> 25;
-        wait = live != 0 ? wait + step : wait > step ? wait - step : 0;
+        wait = live != 0 ? (wait + step) % LONGEST_WAIT : wait > step ? wait - step : 0;
         while (atomic_load(&forgotten_round) != round) sched_yield();
         late += live != 0;
         if (live != 0) get_text(cache, "ada"); /* the next release there */

@@ -46,6 +46,7 @@ static struct {
     sem_t turn[MOST_ACTORS], end;
     unsigned wakes[WAKES][2]; /* by the word that is slept on, and the bit of the reason */
     bool (*waits)(int actor, const char *where); /* whether the actor waits at the step of this name */
+    struct { atomic_uintptr_t *at; uintptr_t to; } late[MOST_ACTORS]; /* what the actor has stored, and others do not see */
 } play;
 
 static _Thread_local int actor = -1;
@@ -84,6 +85,12 @@ static inline void hand_over(bool is_blocked) {
     while (sem_wait(&play.turn[me]) != 0) {}
 }
 
+/* Others see what the actor has stored. */
+static inline void show(int who) {
+    if (play.late[who].at) atomic_store_explicit(play.late[who].at, play.late[who].to, memory_order_release);
+    play.late[who].at = NULL;
+}
+
 static inline void point(bool is_blocked) {
     if (actor < 0) {
         if (is_blocked) sched_yield();
@@ -97,6 +104,18 @@ static inline void point(bool is_blocked) {
     play.waited = is_blocked ? play.waited + 1 : 0;
     if (!is_blocked && random_below(STALLS) == 0) play.stalled[actor] = random_below(LONG);
     if (is_blocked || play.stalled[actor] > 0 || random_below(SWITCHES) == 0) hand_over(is_blocked);
+    show(actor);
+}
+
+/* Others see the store at once, or when the actor has made its next step. */
+static inline void store_late(atomic_uintptr_t *at, uintptr_t to) {
+    if (actor >= 0 && random_below(2)) {
+        play.late[actor].at = at;
+        play.late[actor].to = to;
+        return;
+    }
+    atomic_store_explicit(at, to, memory_order_release);
+    point(false);
 }
 
 /* A step with a name, where a test may let the actor wait. An actor that is stopped after a step that
@@ -150,11 +169,12 @@ static inline long played_futex(void *at, int what, unsigned value, const struct
     return is_late ? -1 : 0;
 }
 
-/* Actors run one after the other: they have no need of a fence. Every third schedule is of a system that has none, and another third of
- * one that refuses it now and then. */
+/* All actors pass a fence. Every third schedule is of a system that has none for all threads. */
 static inline long played_membarrier(void) {
     point(false);
-    return play.number % 3 == 0 || (play.number % 3 == 1 && random_below(4) == 0) ? -1 : 0;
+    if (play.number % 3 == 0) return -1;
+    for (int i = 0; i < play.actors; i++) show(i);
+    return 0;
 }
 
 static inline int played_nanosleep(const struct timespec *time, struct timespec *left) {
@@ -207,6 +227,7 @@ static inline ssize_t played_random(void *to, size_t size, unsigned flags) {
 
 /* The points in the code, by which a test lets an actor wait. */
 #define SFLIGHT_POINT(where) point_at(where)
+#define SFLIGHT_STORE(at, to) store_late(at, to)
 
 /* Plays. */
 
@@ -247,6 +268,7 @@ static inline void begin_play(uint64_t number, int actors) {
     play.waits = NULL;
     memset(play.is_over, 0, sizeof play.is_over);
     memset(play.stalled, 0, sizeof play.stalled);
+    memset(play.late, 0, sizeof play.late);
 }
 
 /* Each actor runs this with its number. Returns when all have ended. */
