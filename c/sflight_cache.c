@@ -6,17 +6,28 @@
  * and go with the shard's lock, and stay at their word. A get takes no lock:
  *
  *     get: reads the word; writes the entry into a place of its thread (hold); reads the word again
- *     out: clears the word; looks through the places of all threads (pay_for)
+ *     out: clears the word; looks through the places of all threads (held_now)
  *
  * These are in one order for all threads. Where the get still finds the word, it was cleared later, so
- * whoever cleared it finds the place: it adds a count to the entry in the get's stead and marks the place as
- * paid. Where the get finds another word, it lets go of the place and has touched nothing. Releasing a
- * value exchanges its place for nothing, and where it was paid, gives the count back. So an entry is freed
- * once it is out and the last one that has it has released it, by the very thread that does the last of
- * these; a thread that is stopped between two steps, or dies, keeps at most the entries in its own places.
- * The place may name an entry that is gone, whose memory is another entry by now: if that is paid for, the
- * get finds so as it lets go, and gives the count back to that one. A table that was too small is kept until
- * the cache is closed, with all its words cleared; such tables together are smaller than the last.
+ * whoever cleared it finds the place. Where the get finds another word, it lets go of the place and has
+ * touched nothing. So a place that was seen without the entry, once that is out, never has it in use again.
+ *
+ * An entry that leaves while a place holds it waits for that place, in the place's list (`owed`). Whoever frees
+ * the place takes its list. Each entry of the list then waits for the next place that holds it. Where there is
+ * none, the cache's count for the entry ends. The release is two plain instructions where the list is empty:
+ *
+ *     release: clears the place; reads its list
+ *     out:     adds the entry to the list; has all threads pass a fence (fence_all); reads the place again
+ *
+ * A release that reads the list after that fence finds the entry. One that has read it before had cleared
+ * the place, so the thread that took the entry out sees that, and takes the list itself. So an entry is freed
+ * once it is out and its last user has released it, by one of these two threads. A thread that is stopped between
+ * two steps, or dies, delays at most the entries that it takes out and those that wait for its own places. No
+ * lock is taken, and an entry passes each place once, however many hold it.
+ *
+ * The place may name an entry that is gone, whose memory is another entry by now. If that one leaves, it waits
+ * until the get has found another word and lets go. A table that was too small is kept until the cache is
+ * closed, with all its words cleared; such tables together are smaller than the last.
  *
  * The leader keeps its value before its call is settled, since the key's next load cannot begin sooner:
  * a value that is kept later is a newer one, unless the key was forgotten meanwhile. Then the older
@@ -46,6 +57,7 @@
 #include "sflight_inside.h"
 #include <errno.h>
 #include <linux/futex.h>
+#include <linux/membarrier.h>
 #include <limits.h>
 #include <signal.h>
 #include <stdlib.h>
@@ -54,9 +66,17 @@
 #include <sys/syscall.h>
 #include <unistd.h>
 
+/* A function that few hits call: in line it would make those longer that all of them call. */
+#define APART __attribute__((noinline))
+
 /* A step between two that other threads may see. Tests stop threads here. */
 #ifndef SFLIGHT_POINT
 #define SFLIGHT_POINT(where) ((void)0)
+#endif
+
+/* A store that other threads may see after a later load of this one. Tests have them see it late. */
+#ifndef SFLIGHT_STORE
+#define SFLIGHT_STORE(at, to) atomic_store_explicit(at, to, memory_order_release)
 #endif
 
 enum {
@@ -91,8 +111,8 @@ enum { FAILED = 0, MISSING = 2, NO_MEMORY = 4, AGAIN = 6, CONSTANTS = 8, MARK = 
 
 #define DATED ((uint64_t)1 << 63)
 
-/* What stands in a thread's place once the entry there has a count. */
-enum { FREE_PLACE = 0, PAID = 1 };
+/* What stands in a place where nothing is in use. */
+enum { FREE_PLACE = 0 };
 
 enum place { OUT, IN_SMALL, IN_MAIN };
 
@@ -127,7 +147,11 @@ struct tags {
  *     HAS_IDLE    4 bytes: how old it was by the steady clock at its last hit, in ticks
  *     HAS_RECORD  its record */
 struct sflight_entry {
-    struct sflight_entry *older, *newer; /* in its queue; `older` also among those that have left */
+    struct sflight_entry *older; /* in its queue, or among those that have left */
+    union {
+        struct sflight_entry *newer; /* in its queue */
+        struct seat *seat;           /* once it has left: those before it have no place that holds it */
+    };
     void *value;
     uint64_t age;  /* of its stamp */
     uint32_t slot; /* of its stamp, with the stamp's table in the upper byte */
@@ -182,6 +206,7 @@ struct sflight_cache {
     sflight_cache_options options;
     uint64_t seeds[3];
     unsigned count; /* of shards */
+    atomic_bool is_fenced; /* each release passes a fence of its own: the system has none for all threads */
     _Atomic(uint64_t) limit;
     _Atomic(int64_t) eras[ERAS]; /* how far the wall clock is ahead of the steady one, as births saw it; or NO_ERA */
     atomic_uint era;             /* that of the last birth */
@@ -397,46 +422,110 @@ static void leave_entry(sflight_cache *c, struct sflight_entry *e) {
     if (is_dropped) c->options.drop(c->options.context, value);
 }
 
-/* Whether the thread's place held the entry still without a count. */
-static bool let_go(atomic_uintptr_t *place) { return atomic_exchange(place, FREE_PLACE) != PAID; }
+/* All threads of the process pass a fence. Where the system begins to refuse that, since the program has set a filter for
+ * system calls, each release passes one of its own from then on. A value that is released at that very moment may be
+ * dropped late: by the next release at its place, or by the close of the cache. */
+static void fence_all(sflight_cache *c) {
+    if (atomic_load(&c->is_fenced)) return;
+    if (syscall(SYS_membarrier, MEMBARRIER_CMD_PRIVATE_EXPEDITED, 0, 0) != 0) atomic_store(&c->is_fenced, true);
+}
 
-/* Gives those that hold the entry, which is out of its table, a count each. */
-static void pay(sflight_cache *c, struct sflight_entry *e) {
-    for (struct seat *seat = atomic_load_explicit(&c->pool->seats, memory_order_seq_cst); seat; seat = seat->next) {
-        for (int i = 0; i < HOLDS; i++) {
-            uintptr_t held = (uintptr_t)e;
-            if (atomic_load_explicit(&seat->held[i], memory_order_seq_cst) != held) continue;
-            atomic_fetch_add_explicit(&e->users, 1, memory_order_relaxed);
-            SFLIGHT_POINT("before pay");
-            /* It may have let go. The cache's own count is there still. */
-            if (!atomic_compare_exchange_strong(&seat->held[i], &held, PAID)) atomic_fetch_sub_explicit(&e->users, 1, memory_order_relaxed);
+/* The first place of the seat that holds the entry, or null. */
+static struct hold *place_in(struct seat *seat, const struct sflight_entry *e) {
+    for (int i = 0; i < HOLDS; i++) if (atomic_load_explicit(&seat->holds[i].entry, memory_order_seq_cst) == (uintptr_t)e) return &seat->holds[i];
+    return NULL;
+}
+
+/* The first place that holds the entry, which is out of its table; or null. */
+static struct hold *place_of(struct sflight_entry *e) {
+    struct hold *place = NULL;
+    while (e->seat && !(place = place_in(e->seat, e))) e->seat = e->seat->next;
+    return place;
+}
+
+/* The entry waits for the place. From here on it belongs to whoever takes the place's list. */
+static void owe(struct hold *place, struct sflight_entry *e) {
+    struct sflight_entry *first = atomic_load_explicit(&place->owed, memory_order_relaxed);
+    do e->older = first;
+    while (!atomic_compare_exchange_weak(&place->owed, &first, e));
+}
+
+/* Takes those that wait for the place, and puts them before the list. */
+static struct sflight_entry *take_owed(struct hold *place, struct sflight_entry *list) {
+    struct sflight_entry *owed = atomic_exchange(&place->owed, NULL), **end = &owed;
+    while (*end) end = &(*end)->older;
+    *end = list;
+    return owed;
+}
+
+/* Ends the cache's counts for those of the list that no place holds. Each of the others waits for the first place that does.
+ * No lock is held. */
+static void leave_unheld(sflight_cache *c, struct sflight_entry *list) {
+    while (list) {
+        struct sflight_entry *e = list;
+        struct hold *place = place_of(e);
+        list = e->older;
+        if (place) {
+            SFLIGHT_POINT("before owe");
+            owe(place, e);
+            fence_all(c);
+            /* The place was freed meanwhile, by a release that may have read the list too soon. */
+            if (atomic_load(&place->entry) != (uintptr_t)e) list = take_owed(place, list);
+        } else {
+            leave_entry(c, e);
         }
     }
 }
+
+/* Frees the place. Returns whether entries wait for that: then the caller is to call collect, once it is done with the place. */
+static inline bool let_go(sflight_cache *c, struct hold *place) {
+    if (atomic_load_explicit(&c->is_fenced, memory_order_relaxed)) {
+        atomic_store(&place->entry, FREE_PLACE);
+        return atomic_load(&place->owed) != NULL;
+    }
+    SFLIGHT_STORE(&place->entry, FREE_PLACE);
+    /* The compiler keeps this order, and fence_all has the processor keep it. */
+    atomic_signal_fence(memory_order_seq_cst);
+    bool is_owed = atomic_load_explicit(&place->owed, memory_order_relaxed) != NULL;
+    SFLIGHT_POINT("let go");
+    return is_owed;
+}
+
+/* Goes on with the entries that wait for the place. It may call functions of the program: after it the place may be in use
+ * again, and the seat may be another thread's. */
+APART static void collect(sflight_cache *c, struct hold *place) { leave_unheld(c, take_owed(place, NULL)); }
 
 static uint64_t bit_of(uintptr_t entry) { return (uint64_t)1 << (entry * 0x9e3779b97f4a7c15u >> 58); }
 
-/* Looks through the places of all threads once, whatever the number of entries. */
-static void pay_for(sflight_cache *c, struct sflight_entry *list) {
-    uint64_t seen = 0;
+/* The bits of all entries that places hold. */
+static uint64_t held_now(sflight_cache *c) {
+    uint64_t held = 0;
     for (struct seat *seat = atomic_load_explicit(&c->pool->seats, memory_order_seq_cst); seat; seat = seat->next) {
         for (int i = 0; i < HOLDS; i++) {
-            uintptr_t held = atomic_load_explicit(&seat->held[i], memory_order_seq_cst);
-            if (held > PAID) seen |= bit_of(held);
+            uintptr_t entry = atomic_load_explicit(&seat->holds[i].entry, memory_order_seq_cst);
+            if (entry != FREE_PLACE) held |= bit_of(entry);
         }
     }
-    for (; list; list = list->older) if (seen & bit_of((uintptr_t)list)) pay(c, list);
+    return held;
 }
 
-/* Tells of those that have left, and ends the cache's counts. No lock is held. */
+/* Tells of those that have left, and ends the cache's counts, or lets them wait for the places that hold them. All places are
+ * looked through once, whatever the number of entries, and again for those whose bit is there. No lock is held. */
 static void leave_all(sflight_cache *c, struct sflight_entry *list) {
-    if (list) pay_for(c, list);
+    uint64_t held = list ? held_now(c) : 0;
     while (list) {
         struct sflight_entry *e = list;
         list = e->older;
         if (c->options.left && e->code == SFLIGHT_CACHE_HIT) c->options.left(c->options.context, key_of(e), e->len, e->value, e->reason);
-        leave_entry(c, e);
+        e->older = NULL;
+        e->seat = held & bit_of((uintptr_t)e) ? atomic_load(&c->pool->seats) : NULL;
+        leave_unheld(c, e);
     }
+}
+
+/* Goes on with the entries that wait still, since the system has refused fence_all. */
+static void collect_all(sflight_cache *c) {
+    for (struct seat *seat = atomic_load(&c->pool->seats); seat; seat = seat->next) for (int i = 0; i < HOLDS; i++) collect(c, &seat->holds[i]);
 }
 
 /* Tags. */
@@ -517,13 +606,18 @@ static enum worth state_by_time(sflight_cache *c, struct sflight_entry *e, const
     return is_value && c->options.refresh_after > 0 && age >= c->options.refresh_after ? DUE : FRESH;
 }
 
-/* What the entry is, where `is_still` says whether no Forget of its key has ended it. An entry without a
- * lifetime reads no clock. */
-static enum worth state_of(sflight_cache *c, struct sflight_entry *e, bool is_still, struct moment *now) {
-    if (!is_still || !are_tags_still(c, e)) return GONE;
+/* What an entry is with tags, a lifetime, or both. Without a lifetime it reads no clock. */
+static enum worth state_by_parts(sflight_cache *c, struct sflight_entry *e, struct moment *now) {
+    if (!are_tags_still(c, e)) return GONE;
     if (!(e->has & HAS_LIFE)) return FRESH;
     *now = now_of(c);
     return state_by_time(c, e, now);
+}
+
+/* What the entry is, where `is_still` says whether no Forget of its key has ended it. */
+static inline enum worth state_of(sflight_cache *c, struct sflight_entry *e, bool is_still, struct moment *now) {
+    if (!is_still) return GONE;
+    return e->has & (HAS_TAGS | HAS_LIFE) ? state_by_parts(c, e, now) : FRESH;
 }
 
 static enum worth state_now(sflight_cache *c, struct sflight_entry *e) {
@@ -742,15 +836,14 @@ static bool make_room(sflight_cache *c, uint64_t weight, unsigned first, struct 
 /* Finding. */
 
 /* A place of this thread that holds nothing, or null. */
-static atomic_uintptr_t *free_place(struct seat *seat) {
-    for (int i = 0; i < HOLDS; i++) if (atomic_load_explicit(&seat->held[i], memory_order_relaxed) == FREE_PLACE) return &seat->held[i];
+static struct hold *free_place(struct seat *seat) {
+    for (int i = 0; i < HOLDS; i++) if (atomic_load_explicit(&seat->holds[i].entry, memory_order_acquire) == FREE_PLACE) return &seat->holds[i];
     return NULL;
 }
 
 /* Looks for the key without a lock. Where it finds it, this place holds the entry. It can miss an entry that
- * comes or goes meanwhile. Where *paid is not null, the thread has a count for that, and has not looked
- * everywhere. */
-static struct sflight_entry *hold(sflight_cache *c, atomic_uintptr_t *place, uint64_t hash, const uint8_t *key, size_t len, struct sflight_entry **paid) {
+ * comes or goes meanwhile. Where *is_owed, it has not looked everywhere, since entries wait for the place. */
+static struct sflight_entry *hold(sflight_cache *c, struct hold *place, uint64_t hash, const uint8_t *key, size_t len, bool *is_owed) {
     struct table *t = atomic_load_explicit(&shard_of(c, hash)->table, memory_order_acquire);
     const uint64_t tag = tag_of(hash);
     for (uint64_t n = home_of(t, hash), tries = 0; tries < t->count; n = n + 1 == t->count ? 0 : n + 1, tries++) {
@@ -760,11 +853,10 @@ static struct sflight_entry *hold(sflight_cache *c, atomic_uintptr_t *place, uin
             if (!word || (word ^ tag) >> 48 != 0) continue;
             struct sflight_entry *e = entry_of(word);
             SFLIGHT_POINT("before hold");
-            atomic_store(place, (uintptr_t)e);
+            atomic_store(&place->entry, (uintptr_t)e);
+            SFLIGHT_POINT("named");
             if (atomic_load(&chunk->words[i]) == word && is_of_key(e, key, len)) return e;
-            if (let_go(place)) continue;
-            *paid = e;
-            return NULL;
+            if ((*is_owed = let_go(c, place))) return NULL;
         }
         if (atomic_load_explicit(&chunk->passed, memory_order_acquire) == 0) break;
     }
@@ -782,7 +874,7 @@ enum { NOT_THERE = -1 };
 
 /* Finds the value of the key with the lock of its shard. Returns HIT, or the code of a kept failure; or
  * NOT_THERE. What nobody will find any more leaves. */
-static int look_locked(sflight_cache *c, uint64_t hash, const uint8_t *key, size_t len, bool counts, sflight_value *value, struct noted *noted) {
+APART static int look_locked(sflight_cache *c, uint64_t hash, const uint8_t *key, size_t len, bool counts, sflight_value *value, struct noted *noted) {
     struct shard *s = shard_of(c, hash);
     struct sflight_entry *left = NULL;
     struct moment now = {0, 0};
@@ -813,14 +905,14 @@ static int look_locked(sflight_cache *c, uint64_t hash, const uint8_t *key, size
 /* Finds the value of the key as look_locked does, with no lock where it is there and the thread has a place for it. */
 static int look(sflight_cache *c, uint64_t hash, const uint8_t *key, size_t len, bool counts, sflight_value *value, struct noted *noted) {
     struct seat *seat = seat_of(c->pool);
-    struct sflight_entry *paid = NULL;
-    atomic_uintptr_t *place = seat ? free_place(seat) : NULL;
+    bool is_owed = false;
+    struct hold *place = seat ? free_place(seat) : NULL;
     if (!place) return look_locked(c, hash, key, len, counts, value, noted);
-    struct sflight_entry *e = hold(c, place, hash, key, len, &paid);
+    struct sflight_entry *e = hold(c, place, hash, key, len, &is_owed);
     if (!e) {
-        if (paid) leave_entry(c, paid);
+        if (is_owed) collect(c, place);
         /* What was there alone is worth a second look: a get asks the group next, and its leader looks again. */
-        if (!counts || paid) return look_locked(c, hash, key, len, counts, value, noted);
+        if (!counts || is_owed) return look_locked(c, hash, key, len, counts, value, noted);
         add(&seat->misses, 1);
         return NOT_THERE;
     }
@@ -829,7 +921,7 @@ static int look(sflight_cache *c, uint64_t hash, const uint8_t *key, size_t len,
     struct moment now;
     enum worth state = state_of(c, e, sflight_is_still(&seat->handle, &stamp), &now);
     if (state < FRESH || !holds_record(c, noted, e)) {
-        if (!let_go(place)) leave_entry(c, e);
+        if (let_go(c, place)) collect(c, place);
         return look_locked(c, hash, key, len, counts, value, noted);
     }
     int code = e->code;
@@ -840,7 +932,7 @@ static int look(sflight_cache *c, uint64_t hash, const uint8_t *key, size_t len,
         if (state == DUE) refresh(c, e);
     }
     if (code == SFLIGHT_CACHE_HIT) *value = (sflight_value){e->value, e, place};
-    else if (!let_go(place)) leave_entry(c, e);
+    else if (let_go(c, place)) collect(c, place);
     return code;
 }
 
@@ -1386,8 +1478,8 @@ static int get_apart(struct getting *of, const sflight_cache_how *how, const str
 static const sflight_cache_how plain;
 
 /* Gets a key that was missed. */
-static int get_missing(sflight_cache *c, uint64_t hash, const uint8_t *key, size_t len, const sflight_cache_how *how,
-                       const struct timespec *deadline, sflight_value *value, const struct noted *noted) {
+APART static int get_missing(sflight_cache *c, uint64_t hash, const uint8_t *key, size_t len, const sflight_cache_how *how,
+                             const struct timespec *deadline, sflight_value *value, const struct noted *noted) {
     uint64_t clock = atomic_load(&c->clock);
     for (int code = NOT_THERE;;) {
         struct getting g = {.cache = c, .key = key, .len = len, .hash = hash, .doing.noted.from = from_of(noted)};
@@ -1446,9 +1538,13 @@ bool sflight_cache_peek(sflight_cache *c, const uint8_t *key, size_t len, sfligh
 
 void sflight_cache_release(sflight_cache *c, sflight_value *value) {
     struct sflight_entry *e = value->entry;
-    atomic_uintptr_t *place = value->hold;
+    struct hold *place = value->hold;
     *value = (sflight_value){0};
-    if (e && (!place || !let_go(place))) leave_entry(c, e);
+    if (place) {
+        if (let_go(c, place)) collect(c, place);
+    } else if (e) {
+        leave_entry(c, e);
+    }
 }
 
 /* Batches. */
@@ -1833,6 +1929,8 @@ sflight_cache *sflight_cache_open(const sflight_cache_options *options) {
     c->options = *options;
     c->expected = options->entries;
     c->count = count;
+    /* In a process with threads the first time takes some milliseconds. */
+    atomic_init(&c->is_fenced, syscall(SYS_membarrier, MEMBARRIER_CMD_REGISTER_PRIVATE_EXPEDITED, 0, 0) != 0);
     atomic_init(&c->limit, limit_of(options->limit));
     atomic_init(&c->room, (long long)limit_of(options->limit));
     for (int i = 0; i < ERAS; i++) atomic_init(&c->eras[i], NO_ERA);
@@ -1879,6 +1977,8 @@ void sflight_cache_close(sflight_cache *c) {
         pthread_mutex_unlock(&s->lock);
         leave_all(c, left);
     }
+    wait_idle(c);
+    collect_all(c);
     wait_idle(c);
     free_cache(c);
 }

@@ -99,6 +99,14 @@ struct cache_head {
 /* How many values of a cache a thread has in use without a count of its own for each. */
 enum { HOLDS = 8 };
 
+struct sflight_entry;
+
+/* A place for one of them (sflight_cache.c). The seat's owner takes it, and any thread may free it. */
+struct hold {
+    atomic_uintptr_t entry;               /* what is in use there; 0: nothing */
+    _Atomic(struct sflight_entry *) owed; /* entries that have left the cache, and wait until it is free */
+};
+
 /* A thread's share of a pool. Its owner is the thread whose `sflight_inside_near` has it, or nobody:
  * then any thread can take it. */
 struct seat {
@@ -110,8 +118,8 @@ struct seat {
     /* Written by the owner alone, and read by any thread. The sum over all seats says how many there
      * are: a load may begin by one and end by another. */
     atomic_ullong loads, joins, forgets, in_use, hits, misses;
-    /* What the owner holds of the pool's cache (sflight_cache.c). */
-    _Alignas(CACHE_LINE) atomic_uintptr_t held[HOLDS];
+    /* What the owner holds of the pool's cache. */
+    _Alignas(CACHE_LINE) struct hold holds[HOLDS];
 };
 
 /* A thread keeps seats of so many pools. */

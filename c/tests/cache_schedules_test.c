@@ -566,6 +566,59 @@ static void table_widens(int number) {
     phase = 3;
 }
 
+/* A value is forgotten while a thread has it in use. The Forget finds that, and stops. Meanwhile the thread releases the value. Then the
+ * Forget goes on, and drops it. */
+static bool stops_owing(int who, const char *where) {
+    if (who != 1 || phase < 2 || strcmp(where, "before owe") != 0) return false;
+    if (phase == 2) phase = 3;
+    return phase < 4;
+}
+
+static void releases_before_owed(int number) {
+    sflight_value value;
+    if (number == 0) {
+        check(get("k") == 1, "a value is kept");
+        check(sflight_cache_get(cache, (const uint8_t *)"k", 1, &value) == SFLIGHT_CACHE_HIT && value.hold, "and in use at a place");
+        phase = 2;
+        until(3);
+        check(phase == 3, "a Forget has found that");
+        sflight_cache_release(cache, &value);
+        check(live == 1, "it is dropped by whoever takes it out");
+        phase = 4;
+        return;
+    }
+    until(2);
+    sflight_cache_forget(cache, (const uint8_t *)"k", 1);
+    check(phase == 4 && live == 0, "what was released as it left is dropped at once");
+}
+
+/* A thread names an entry in its place, and stops before it looks again. Meanwhile another one forgets the value, which it has in use, and releases
+ * it: the value waits for the first, which has not got it. */
+static bool stops_naming(int who, const char *where) {
+    if (who != 0 || phase < 2 || strcmp(where, "named") != 0) return false;
+    if (phase == 2) phase = 3;
+    return phase < 4;
+}
+
+static void names_what_is_gone(int number) {
+    sflight_value value;
+    if (number == 0) {
+        check(get("k") == 1, "a value is kept");
+        phase = 2;
+        check(get("k") == 2, "it is not had once it was forgotten");
+        check(live == 1, "and whoever has named it in vain drops it");
+        return;
+    }
+    until(2);
+    check(sflight_cache_get(cache, (const uint8_t *)"k", 1, &value) == SFLIGHT_CACHE_HIT && value.hold, "it is in use at another place");
+    until(3);
+    store = 2;
+    sflight_cache_forget(cache, (const uint8_t *)"k", 1);
+    sflight_cache_release(cache, &value);
+    check(live == 1, "it waits for the place that names it");
+    phase = 4;
+}
+
 /* The value of a call takes the place of another. The drop function of that one gets a key, whose load in another
  * thread waits for the very call. `phase` is 1 once the first key is loaded, and 2 once the other thread has joined
  * its call. */
@@ -633,6 +686,8 @@ int main(int argc, char **argv) {
         play_in_order(i, 2, load_store, 5, stops_forget, forget_is_slow);
         play_in_order(i, 2, load_store, 5, stops_miss, misses_before);
         play_in_order(i, 2, load_store, 100, stops_hold, table_widens);
+        play_in_order(i, 2, load_store, 5, stops_owing, releases_before_owed);
+        play_in_order(i, 2, load_store, 5, stops_naming, names_what_is_gone);
     }
     for (uint64_t i = from; i < from + count && failed == 0; i++) play_at_random(i);
     close_plays();

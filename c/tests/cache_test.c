@@ -844,6 +844,123 @@ static void test_forgets_beside_gets(void) {
     check(live == 0, "each value is dropped once");
 }
 
+/* A value that is in use at several places of two threads when it leaves. It lives until the last one has released it, in any order. */
+enum { USES = 4, ORDERS = 24 };
+
+struct user {
+    sflight_cache *cache;
+    sflight_value *values;
+};
+
+static void *uses_twice(void *arg) {
+    struct user *u = arg;
+    for (int i = 0; i < 2; i++) check(sflight_cache_get(u->cache, (const uint8_t *)"ada", 3, &u->values[i]) == SFLIGHT_CACHE_HIT, "a value is found");
+    return NULL;
+}
+
+static void test_used_by_many(void) {
+    struct plan plan = {0};
+    sflight_cache *cache = open_cache(100, 100, &plan);
+    for (int order = 0; order < ORDERS; order++) {
+        sflight_value values[USES];
+        struct user user = {cache, values};
+        pthread_t thread;
+        get_text(cache, "ada");
+        if (pthread_create(&thread, NULL, uses_twice, &user)) abort();
+        pthread_join(thread, NULL);
+        user.values += 2;
+        uses_twice(&user);
+        forget_text(cache, "ada");
+        for (int left = USES, rest = order; left > 0; left--) {
+            int at = rest % left;
+            rest /= left;
+            check(values[at].hold && live == 1 && ((struct page *)values[at].at)->mark == LIVE, "what is in use lives");
+            sflight_cache_release(cache, &values[at]);
+            values[at] = values[left - 1];
+        }
+        check(live == 0, "and the last release drops it");
+    }
+    sflight_cache_close(cache);
+}
+
+/* Where the system refuses a fence for all threads, a value may be released as it leaves without that either thread finds that. The next
+ * release at its place drops it, or the close. */
+static void test_unfenced(void) {
+    for (int round = 0; round < 3; round++) {
+        struct plan plan = {0};
+        sflight_cache *cache = open_cache(100, 100, &plan);
+        sflight_value value;
+        get_text(cache, "ada");
+        get_text(cache, "bob");
+        check(sflight_cache_get(cache, (const uint8_t *)"ada", 3, &value) == SFLIGHT_CACHE_HIT && value.hold, "a value is in use at a place");
+        struct hold *place = value.hold;
+        forget_text(cache, "ada");
+        check(live == 2, "and lives when it is forgotten");
+        atomic_store(&place->entry, FREE_PLACE); /* a release that has looked before */
+        if (round > 0) {
+            check(sflight_cache_get(cache, (const uint8_t *)"bob", 3, &value) == SFLIGHT_CACHE_HIT && value.hold == place, "the next one there");
+            if (round > 1) forget_text(cache, "bob");
+            check(live == 2, "waits");
+            sflight_cache_release(cache, &value);
+            check(live == (round > 1 ? 0 : 1), "and its release drops those that wait for it");
+        }
+        sflight_cache_close(cache);
+        check(live == 0, "all are dropped");
+    }
+}
+
+/* One thread releases a value while another forgets it: one of the two drops it. */
+enum { LINES = 6, RELEASES = GETS / 10, LONGEST_WAIT = 1 << 14, LONGEST_TIME = 3 };
+static struct { _Alignas(CACHE_LINE) atomic_uint word; } lines[LINES];
+static atomic_uint ready_round, released_round, forgotten_round, last_round;
+
+static void *forgets_each(void *cache) {
+    for (unsigned round = 1; round <= atomic_load(&last_round); round++) {
+        for (int i = 0; i < LINES; i++) atomic_store_explicit(&lines[i].word, round, memory_order_relaxed);
+        atomic_store(&ready_round, round);
+        for (unsigned i = 0; atomic_load(&released_round) != round; i++) if (i > LONGEST_WAIT) sched_yield();
+        forget_text(cache, "ada");
+        atomic_store(&forgotten_round, round);
+    }
+    return NULL;
+}
+
+static void test_released_as_it_leaves(bool is_fenced) {
+    struct plan plan = {0};
+    sflight_cache *cache = open_cache(100, 100, &plan);
+    pthread_t thread;
+    unsigned state = 1, late = 0, wait = 0;
+    if (is_fenced) atomic_store(&cache->is_fenced, true);
+    ready_round = released_round = forgotten_round = 0;
+    last_round = RELEASES;
+    time_t end = time(NULL) + LONGEST_TIME;
+    if (pthread_create(&thread, NULL, forgets_each, cache)) abort();
+    for (unsigned round = 1; round <= last_round; round++) {
+        sflight_value value;
+        if (time(NULL) > end) last_round = round;
+        get_text(cache, "ada");
+        if (sflight_cache_get(cache, (const uint8_t *)"ada", 3, &value) != SFLIGHT_CACHE_HIT || !value.hold) abort();
+        /* Both run now, if there are two processors. */
+        while (atomic_load(&ready_round) != round) sched_yield();
+        atomic_store(&released_round, round);
+        for (unsigned i = 0; i < wait; i++) atomic_signal_fence(memory_order_seq_cst);
+        /* The other processor has these lines: what the release writes is seen after them. */
+        for (int i = 0; i < LINES; i++) atomic_store_explicit(&lines[i].word, round, memory_order_relaxed);
+        sflight_cache_release(cache, &value);
+        /* It is sooner next time where it came after the Forget, and else later: so the two meet. */
+        unsigned step = (state = state * 1664525 + 1013904223) >> 25;
+        wait = live != 0 ? (wait + step) % LONGEST_WAIT : wait > step ? wait - step : 0;
+        while (atomic_load(&forgotten_round) != round) sched_yield();
+        late += live != 0;
+        if (live != 0) get_text(cache, "ada"); /* the next release there */
+        forget_text(cache, "ada");
+    }
+    pthread_join(thread, NULL);
+    check(late == 0, "a value that is released as it leaves is dropped at once");
+    sflight_cache_close(cache);
+    check(live == 0, "all are dropped");
+}
+
 int main(void) {
     signal(SIGALRM, hangs_at);
     alarm(LIMIT);
@@ -869,6 +986,10 @@ int main(void) {
     test_shared_refusal();
     test_one_load();
     test_forgets_beside_gets();
+    test_used_by_many();
+    test_unfenced();
+    test_released_as_it_leaves(false);
+    test_released_as_it_leaves(true);
     printf("%d passed, %d failed\n", passed, failed);
     return failed != 0;
 }

@@ -23,7 +23,9 @@ static void order_point(const char *where);
 static long order_futex(long number, const void *word, int what, unsigned value, const struct timespec *deadline, void *other, unsigned which);
 
 #define SFLIGHT_POINT(where) order_point(where)
-#define syscall(...) order_futex(__VA_ARGS__)
+#define syscall(number, ...) order_##number(number, __VA_ARGS__)
+#define order_SYS_futex order_futex
+#define order_SYS_membarrier (syscall)
 #include "sflight_cache.c"
 #include "sflight_do.c"
 #undef syscall

@@ -46,6 +46,7 @@ static struct {
     sem_t turn[MOST_ACTORS], end;
     unsigned wakes[WAKES][2]; /* by the word that is slept on, and the bit of the reason */
     bool (*waits)(int actor, const char *where); /* whether the actor waits at the step of this name */
+    struct { atomic_uintptr_t *at; uintptr_t to; } late[MOST_ACTORS]; /* what the actor has stored, and others do not see */
 } play;
 
 static _Thread_local int actor = -1;
@@ -84,6 +85,12 @@ static inline void hand_over(bool is_blocked) {
     while (sem_wait(&play.turn[me]) != 0) {}
 }
 
+/* Others see what the actor has stored. */
+static inline void show(int who) {
+    if (play.late[who].at) atomic_store_explicit(play.late[who].at, play.late[who].to, memory_order_release);
+    play.late[who].at = NULL;
+}
+
 static inline void point(bool is_blocked) {
     if (actor < 0) {
         if (is_blocked) sched_yield();
@@ -97,6 +104,18 @@ static inline void point(bool is_blocked) {
     play.waited = is_blocked ? play.waited + 1 : 0;
     if (!is_blocked && random_below(STALLS) == 0) play.stalled[actor] = random_below(LONG);
     if (is_blocked || play.stalled[actor] > 0 || random_below(SWITCHES) == 0) hand_over(is_blocked);
+    show(actor);
+}
+
+/* Others see the store at once, or when the actor has made its next step. */
+static inline void store_late(atomic_uintptr_t *at, uintptr_t to) {
+    if (actor >= 0 && random_below(2)) {
+        play.late[actor].at = at;
+        play.late[actor].to = to;
+        return;
+    }
+    atomic_store_explicit(at, to, memory_order_release);
+    point(false);
 }
 
 /* A step with a name, where a test may let the actor wait. An actor that is stopped after a step that
@@ -126,8 +145,7 @@ static inline int played_unlock(pthread_mutex_t *lock) {
 static inline unsigned *wakes_of(const void *word, unsigned bit) { return &play.wakes[(uintptr_t)word / 64 % WAKES][bit]; }
 
 /* A futex. Every other schedule wakes threads for no reason; in the rest one that nobody wakes sleeps. */
-static inline long played_syscall(long number, void *at, int what, unsigned value, const struct timespec *deadline, void *other, unsigned which) {
-    (void)number;
+static inline long played_futex(void *at, int what, unsigned value, const struct timespec *deadline, void *other, unsigned which) {
     if (actor < 0) return (syscall)(SYS_futex, at, what, value, deadline, other, which);
     if ((what & FUTEX_CMD_MASK) == FUTEX_WAKE_BITSET) {
         point(false);
@@ -149,6 +167,14 @@ static inline long played_syscall(long number, void *at, int what, unsigned valu
     } while (!is_late && play.number % 2 == 0 && *wakes_of(at, bit) == before);
     errno = ETIMEDOUT;
     return is_late ? -1 : 0;
+}
+
+/* All actors pass a fence. Every third schedule is of a system that has none for all threads. */
+static inline long played_membarrier(void) {
+    point(false);
+    if (play.number % 3 == 0) return -1;
+    for (int i = 0; i < play.actors; i++) show(i);
+    return 0;
 }
 
 static inline int played_nanosleep(const struct timespec *time, struct timespec *left) {
@@ -195,10 +221,13 @@ static inline ssize_t played_random(void *to, size_t size, unsigned flags) {
 #define sched_yield played_yield
 #define nanosleep played_nanosleep
 #define getrandom played_random
-#define syscall(...) played_syscall(__VA_ARGS__)
+#define syscall(number, ...) played_##number(__VA_ARGS__)
+#define played_SYS_futex played_futex
+#define played_SYS_membarrier(...) played_membarrier()
 
 /* The points in the code, by which a test lets an actor wait. */
 #define SFLIGHT_POINT(where) point_at(where)
+#define SFLIGHT_STORE(at, to) store_late(at, to)
 
 /* Plays. */
 
@@ -239,6 +268,7 @@ static inline void begin_play(uint64_t number, int actors) {
     play.waits = NULL;
     memset(play.is_over, 0, sizeof play.is_over);
     memset(play.stalled, 0, sizeof play.stalled);
+    memset(play.late, 0, sizeof play.late);
 }
 
 /* Each actor runs this with its number. Returns when all have ended. */
