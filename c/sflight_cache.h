@@ -194,8 +194,9 @@ typedef struct sflight_cache_stats {
 
 /* Opens a cache. An entry takes at most 120 bytes beside its key and value, with a lifetime too: about
  * 35 of them at once, and the others while its value is there. It takes 8 more where the load said
- * how long it lives, and 8 and 4 for each tag. Returns null where an option is out of range, there
- * is no memory, or the processor is too old (see sflight_open). */
+ * how long it lives, and 8 and 4 for each tag. It uses membarrier(2), and does without where the
+ * system refuses that; a filter for system calls may not end the program for it. Returns null where
+ * an option is out of range, there is no memory, or the processor is too old (see sflight_open). */
 SFLIGHT_MUST_USE
 sflight_cache *sflight_cache_open(const sflight_cache_options *options);
 
