@@ -80,6 +80,7 @@ pub(crate) struct Taken<'a>(&'a Place);
 pub(crate) struct Hold<'a>(&'a AtomicUsize);
 
 impl Drop for Hold<'_> {
+    #[inline]
     fn drop(&mut self) {
         self.0.store(FREE, Release);
     }
