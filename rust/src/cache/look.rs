@@ -251,7 +251,7 @@ where
         } else {
             drop(met);
         }
-        self.tell_hit();
+        self.options.recorder.iter().for_each(|recorder| recorder.hit());
         taken
     }
 
@@ -285,13 +285,6 @@ where
         // First: if the recorder panics, nobody else would begin it.
         if let Some(due) = due {
             self.refresh(due, key.fingerprint);
-        }
-    }
-
-    #[inline]
-    fn tell_hit(&self) {
-        if let Some(recorder) = &self.options.recorder {
-            recorder.hit();
         }
     }
 
@@ -337,7 +330,7 @@ where
         }
         let (taken, after) = took?;
         self.end_hit(key, after);
-        self.tell_hit();
+        self.options.recorder.iter().for_each(|recorder| recorder.hit());
         taken
     }
 

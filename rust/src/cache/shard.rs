@@ -13,7 +13,6 @@ use crate::shared::Shared;
 use crate::sync::{lock, point};
 use std::alloc::{alloc_zeroed, Layout};
 use std::borrow::Borrow;
-use std::marker::PhantomData;
 use std::ops::Deref;
 use std::ptr::{null, null_mut, NonNull};
 use std::sync::atomic::{
@@ -181,7 +180,7 @@ impl<K, V, E> Shard<K, V, E> {
                 // that before it is freed.
                 let entry = unsafe { &*untagged(seen) };
                 if entry.print == print && entry.key.borrow() == key {
-                    return Some(Met { place: place?, entry: entry.into(), shard: PhantomData });
+                    return Some(Met { place: place?, entry: entry.into() });
                 }
                 break;
             }
@@ -218,13 +217,12 @@ impl<K, V, E> Drop for Shard<K, V, E> {
 pub(super) struct Met<'a, K, V, E> {
     place: Taken<'a>,
     entry: NonNull<Entry<K, V, E>>,
-    shard: PhantomData<&'a Shard<K, V, E>>,
 }
 
 impl<'a, K, V, E> Met<'a, K, V, E> {
     #[inline]
     pub(super) fn parts(&mut self) -> (&mut Taken<'a>, &Entry<K, V, E>) {
-        // SAFETY: the place protects it, and the shard is there.
+        // SAFETY: the place protects it: only a look has it protect another. The shard is there.
         (&mut self.place, unsafe { self.entry.as_ref() })
     }
 }
