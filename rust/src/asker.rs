@@ -2,8 +2,8 @@
 
 use crate::keyed;
 use crate::post::{Post, Ticket};
-use crate::recording::{CallRecord, ValueRecord};
-use crate::shared::Shared;
+use crate::recording::{CallRecord, Noted, ValueRecord};
+use crate::shared::{Crowded, Join, Shared};
 use crate::sync::{instant, pause};
 use crate::{Call, Error, Loaded, Stamp};
 use std::future::{poll_fn, Future};
@@ -17,7 +17,9 @@ pub(crate) struct Asker<T> {
     pub(crate) lead: Option<keyed::Call>,
     /// Its name, and the stamp that its value will have, unless it is forgotten before it is settled.
     pub(crate) name: Call,
-    /// If it is recorded.
+    /// Of the asking that has joined a call, if it is recorded.
+    pub(crate) noted: Option<Noted>,
+    /// Of the call that it leads, if that is recorded.
     pub(crate) record: Option<Arc<CallRecord>>,
     /// The record of its value, if it is a call of a cache that is recorded.
     pub(crate) value: Option<Arc<ValueRecord>>,
@@ -49,11 +51,11 @@ impl<T> Load<'_, T> {
     }
 
     /// Ends the load, which has returned this value.
-    #[inline]
+    #[inline(always)]
     fn ends(self, value: T) -> Loaded<T> {
         let value = Arc::new(value);
-        let mut got = Loaded { value, joiners: 0, led: true, call: self.0.name };
-        self.1.settle(self.0, Some(&mut got));
+        let joiners = self.1.settle(self.0, Some(&value));
+        let got = self.0.loaded(value, joiners);
         self.0.last = Some(got.stamp());
         got
     }
@@ -68,7 +70,20 @@ impl<T> Drop for Load<'_, T> {
 impl<T> Asker<T> {
     #[inline]
     pub(crate) fn new() -> Self {
-        Asker { lead: None, name: Call::NONE, record: None, value: None, own: None, last: None }
+        let (name, last) = (Call::NONE, None);
+        Asker { lead: None, name, noted: None, record: None, value: None, own: None, last }
+    }
+
+    /// The call that it has joined.
+    pub(crate) fn join(&mut self) -> Join {
+        let call = self.lead.take().expect("the call that has joined");
+        Join { call, id: self.name.id, noted: self.noted.take() }
+    }
+
+    /// What its load came to.
+    #[inline]
+    pub(crate) fn loaded(&self, value: Arc<T>, joiners: u32) -> Loaded<T> {
+        Loaded { value, joiners, led: true, call: self.name }
     }
 
     /// Settles the call that it leads with nothing. Where its job or future was leaked, nobody can
@@ -86,38 +101,62 @@ impl<T> Asker<T> {
         shared.settle(self, None);
     }
 
-    /// Gets the key, by the load or from a call of another, unless that takes longer than the timeout.
+    /// Gets the key, by the load or from a call of another.
     #[inline]
     pub(crate) fn get(
         &mut self,
         shared: &Shared<T>,
         key: &[u8],
-        timeout: Option<Duration>,
+        load: impl FnOnce(Leads) -> T,
+    ) -> Loaded<T> {
+        match self.join_any(shared, key, None) {
+            Some(got) => got.expect("a wait without a deadline"),
+            None => self.run(shared, load),
+        }
+    }
+
+    /// Gets the key, by the load or from a call of another, unless that takes longer than the timeout.
+    pub(crate) fn get_timeout(
+        &mut self,
+        shared: &Shared<T>,
+        key: &[u8],
+        timeout: Duration,
         load: impl FnOnce(Leads) -> T,
     ) -> Result<Loaded<T>, Error> {
-        let deadline = timeout.and_then(|timeout| Instant::now().checked_add(timeout));
+        let deadline = Instant::now().checked_add(timeout);
+        self.join_any(shared, key, deadline).unwrap_or_else(|| Ok(self.run(shared, load)))
+    }
+
+    /// Asks for the key until it has what a call of another came to, or the deadline is there. `None`
+    /// where it has to run the load.
+    fn join_any(
+        &mut self,
+        shared: &Shared<T>,
+        key: &[u8],
+        deadline: Option<Instant>,
+    ) -> Option<Result<Loaded<T>, Error>> {
         let mut tries = 0;
         loop {
-            let Ok(join) = shared.ask(key, self) else {
-                // It is `Crowded`.
-                if deadline.is_some_and(|deadline| instant() >= deadline) {
-                    break;
+            match shared.ask(key, self) {
+                Ok(true) => {}
+                Ok(false) => return None,
+                Err(Crowded) if deadline.is_some_and(|deadline| instant() >= deadline) => break,
+                Err(Crowded) => {
+                    pause(&mut tries);
+                    continue;
                 }
-                pause(&mut tries);
-                continue;
-            };
-            let Some(join) = join else { return Ok(self.run(shared, load)) };
-            let ticket = Ticket::new(shared, join);
+            }
+            let ticket = Ticket::new(shared, self.join());
             if !ticket.wait(deadline) {
                 break;
             }
             if let Some(got) = ticket.read() {
                 self.last = Some(got.stamp());
-                return Ok(got);
+                return Some(Ok(got));
             }
         }
         self.last = None;
-        Err(Error::TimedOut)
+        Some(Err(Error::TimedOut))
     }
 
     /// Runs the load that it has to run.
@@ -136,12 +175,15 @@ impl<T> Asker<T> {
         load: impl FnOnce(Leads) -> F,
     ) -> Loaded<T> {
         loop {
-            let Ok(join) = shared.ask(key, self) else {
-                yield_now().await;
-                continue;
-            };
-            let Some(join) = join else { return self.run_async(shared, load).await };
-            let mut ticket = Ticket::new(shared, join);
+            match shared.ask(key, self) {
+                Ok(true) => {}
+                Ok(false) => return self.run_async(shared, load).await,
+                Err(Crowded) => {
+                    yield_now().await;
+                    continue;
+                }
+            }
+            let mut ticket = Ticket::new(shared, self.join());
             let before = self.last.take();
             // Where it is dropped here it has left the call.
             poll_fn(|context| ticket.poll(context.waker())).await;

@@ -57,8 +57,7 @@ impl<T: Send + Sync> Caller<T> {
     /// assert!(*got.value == 7 && got.led && !got.shared());
     /// ```
     pub fn get_or_load(&mut self, key: impl AsRef<[u8]>, load: impl FnOnce() -> T) -> Loaded<T> {
-        let got = self.asker.get(&self.shared, key.as_ref(), None, |_| load());
-        got.expect("a wait without a deadline")
+        self.asker.get(&self.shared, key.as_ref(), |_| load())
     }
 
     /// Returns the value of the key, as
@@ -84,7 +83,7 @@ impl<T: Send + Sync> Caller<T> {
         timeout: Duration,
         load: impl FnOnce() -> T,
     ) -> Result<Loaded<T>, Error> {
-        self.asker.get(&self.shared, key.as_ref(), Some(timeout), |_| load())
+        self.asker.get_timeout(&self.shared, key.as_ref(), timeout, |_| load())
     }
 
     /// Returns the value of the key in a task, as
@@ -131,8 +130,8 @@ impl<T: Send + Sync> Caller<T> {
     /// assert_eq!(waits.join().unwrap(), 7);
     /// ```
     pub fn subscribe(&mut self, key: impl AsRef<[u8]>) -> (Receiver<T>, Option<Job<'_, T>>) {
-        let join = until(|| self.shared.ask(key.as_ref(), &mut self.asker).ok());
-        Job::new(Leader::Lent(self), join)
+        let has_joined = until(|| self.shared.ask(key.as_ref(), &mut self.asker).ok());
+        Job::new(Leader::Lent(self), has_joined)
     }
 
     /// Forgets the key, as [`Group::forget`](crate::Group::forget) does.

@@ -3,7 +3,7 @@
 use crate::asker::{Asker, Leads};
 use crate::post::Ticket;
 use crate::recording::ValueRecord;
-use crate::shared::{Join, Shared};
+use crate::shared::Shared;
 use crate::{Call, Caller, Loaded};
 use std::fmt;
 use std::future::Future;
@@ -45,10 +45,10 @@ impl<T> Leader<'_, T> {
 
 impl<'a, T> Job<'a, T> {
     /// Makes both after the leader has asked: it has joined that call, or has to load.
-    pub(crate) fn new(mut leader: Leader<'a, T>, join: Option<Join>) -> Subscribed<'a, T> {
+    pub(crate) fn new(mut leader: Leader<'a, T>, has_joined: bool) -> Subscribed<'a, T> {
         let Caller { shared, asker } = leader.caller();
-        if let Some(join) = join {
-            return (Receiver(Some(Ticket::new(shared.clone(), join))), None);
+        if has_joined {
+            return (Receiver(Some(Ticket::new(shared.clone(), asker.join()))), None);
         }
         // It is not counted as one who joined.
         let own = asker.own.insert(Arc::default()).clone();

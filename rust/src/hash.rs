@@ -49,13 +49,16 @@ impl Hasher for Fingerprint<'_> {
 
     #[inline]
     fn write(&mut self, key: &[u8]) {
-        let (mut state, [_, second, third], len) = (self.state, self.seeds, key.len());
-        for chunk in key.chunks_exact(16) {
+        let (before, [_, second, third], len) = (self.state, self.seeds, key.len());
+        let (mut state, mut rest) = (before, key);
+        while let Some((chunk, more)) = rest.split_first_chunk::<16>() {
             state = fold(word::<8>(chunk, 0) ^ state, word::<8>(chunk, 8) ^ second);
+            rest = more;
         }
         // The last 16 bytes, which may have been read in part; or all, where there are fewer. The
-        // length tells them apart. It comes in last: beside a word of the key it would tell
-        // nothing apart from another length with another byte.
+        // length tells them apart, by the seed that it chooses: beside a word of the key it would
+        // tell nothing apart from another length with another byte. Nothing here waits for the
+        // chunks before.
         let (low, high) = match len {
             16.. => (word::<8>(key, len - 16), word::<8>(key, len - 8)),
             8.. => (word::<8>(key, 0), word::<8>(key, len - 8)),
@@ -66,13 +69,17 @@ impl Hasher for Fingerprint<'_> {
             ),
             0 => (0, 0),
         };
-        state = fold(low ^ state, high ^ third);
-        self.state = fold(state ^ second ^ len as u64, third ^ self.seeds[0]);
+        let seed = third.wrapping_mul(2 * len as u64 + 1);
+        self.state = state.wrapping_add(fold(low ^ before, high ^ seed));
     }
 
+    /// The byte behind a string needs no multiplication of its own: nobody knows what is added.
     #[inline]
     fn write_u8(&mut self, number: u8) {
-        self.write_u64(number.into());
+        match number {
+            0xff => self.state = self.state.wrapping_add(self.seeds[2]),
+            _ => self.write_u64(number.into()),
+        }
     }
 
     #[inline]
@@ -135,12 +142,15 @@ fn keys_that_differ_in_one_byte_have_two_fingerprints() {
             key[at] = b'k';
         }
     }
-    // Numbers of every width, pairs in both orders, and strings.
+    // Numbers, pairs in both orders, strings, and the byte that is behind a string.
     for number in 1..1000u64 {
         assert!(all.insert(fingerprints.of(&number)), "{number}");
         assert!(all.insert(fingerprints.of(&(number, 0u64))), "{number}, 0");
         assert!(all.insert(fingerprints.of(&(0u64, number))), "0, {number}");
         assert!(all.insert(fingerprints.of(&number.to_string())), "{number} in digits");
+        assert!(all.insert(fingerprints.of(&(number, 0xffu8))), "{number}, 0xff");
+        assert!(all.insert(fingerprints.of(&(0xffu8, number))), "0xff, {number}");
+        assert!(all.insert(fingerprints.of(&(0xffu8, 0xffu8, number))), "twice 0xff, {number}");
     }
 }
 

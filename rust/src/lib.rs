@@ -413,8 +413,7 @@ impl<T: Send + Sync> Group<T> {
     /// assert!(*got.value == "Ada" && got.led);
     /// ```
     pub fn get_or_load(&self, key: impl AsRef<[u8]>, load: impl FnOnce() -> T) -> Loaded<T> {
-        let got = Asker::new().get(&self.shared, key.as_ref(), None, |_| load());
-        got.expect("a wait without a deadline")
+        Asker::new().get(&self.shared, key.as_ref(), |_| load())
     }
 
     /// Returns the value of the key, and waits no longer than the timeout for the load of another
@@ -440,7 +439,7 @@ impl<T: Send + Sync> Group<T> {
         timeout: Duration,
         load: impl FnOnce() -> T,
     ) -> Result<Loaded<T>, Error> {
-        Asker::new().get(&self.shared, key.as_ref(), Some(timeout), |_| load())
+        Asker::new().get_timeout(&self.shared, key.as_ref(), timeout, |_| load())
     }
 
     /// Returns the value of the key in a task: from the key's open call, or by awaiting `load`. The
@@ -504,8 +503,8 @@ impl<T: Send + Sync> Group<T> {
         T: 'a,
     {
         let mut caller = self.caller();
-        let join = self.shared.ask(key.as_ref(), &mut caller.asker)?;
-        Ok(Job::new(Leader::Own(caller), join))
+        let has_joined = self.shared.ask(key.as_ref(), &mut caller.asker)?;
+        Ok(Job::new(Leader::Own(caller), has_joined))
     }
 
     /// Forgets the key: a caller that asks from now on never receives a value whose load began

@@ -50,9 +50,9 @@ pub(crate) struct Seat {
 impl Seat {
     /// The call is idle again.
     #[inline]
-    pub(crate) fn put(&mut self, call: Option<Call>) {
+    pub(crate) fn put(&mut self, call: Call) {
         if self.idle.len() < IDLE {
-            self.idle.extend(call);
+            self.idle.push(call);
         }
     }
 }
@@ -80,6 +80,7 @@ pub(crate) struct Taken<'a>(&'a Place);
 pub(crate) struct Hold<'a>(&'a AtomicUsize);
 
 impl Drop for Hold<'_> {
+    #[inline]
     fn drop(&mut self) {
         self.0.store(FREE, Release);
     }

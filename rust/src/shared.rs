@@ -21,7 +21,7 @@ use crate::places::{until, Places, Seat};
 use crate::post::{Posts, Told};
 use crate::recording::{Noted, Recordings};
 use crate::sync::{at, pause, point};
-use crate::{Call, Error, ForgetOutcome, Loaded, Stamp};
+use crate::{Call, Error, ForgetOutcome, Stamp};
 use std::sync::atomic::{AtomicU64, Ordering::Relaxed};
 use std::sync::{Arc, Mutex};
 
@@ -59,10 +59,11 @@ impl<T> Shared<T> {
         Ok(Shared { places, posts: Posts::new(), grower, cells, recordings: Arc::default() })
     }
 
-    /// Asks for the key. Returns the call that the asker has joined, or none where it has to load: for
-    /// the call that it leads, or where there is no memory for one, for itself alone.
+    /// Asks for the key. Returns whether the asker has joined a call, which it has to take then
+    /// ([`Asker::join`]). Else it has to load: for the call that it leads, or where there is no memory
+    /// for one, for itself alone.
     #[inline]
-    pub(crate) fn ask(&self, key: &[u8], asker: &mut Asker<T>) -> Result<Option<Join>, Crowded> {
+    pub(crate) fn ask(&self, key: &[u8], asker: &mut Asker<T>) -> Result<bool, Crowded> {
         asker.abandon(self);
         let noted = self.recordings.noted();
         let mut tries = 0;
@@ -76,7 +77,7 @@ impl<T> Shared<T> {
                 match asked {
                     Asked::Led => seat.loads += 1,
                     Asked::Joined => seat.joins += 1,
-                    _ => seat.put(asker.lead.take()),
+                    _ => seat.put(asker.lead.take()?),
                 }
                 Some((asked, seat.loads % EARLY == 0 && self.may_be_half_taken(seat)))
             });
@@ -89,19 +90,19 @@ impl<T> Shared<T> {
                     if is_early {
                         self.grow(true);
                     }
-                    return Ok(None);
+                    return Ok(false);
                 }
                 Some((Asked::Joined, _)) => {
                     at("asked");
-                    let call = asker.lead.take().expect("the call that has joined");
-                    return Ok(Some(Join { call, id: asker.name.id, noted }));
+                    asker.noted = noted;
+                    return Ok(true);
                 }
                 Some((Asked::Crowded, _)) => return Err(Crowded),
                 Some((Asked::Busy, _)) => pause(&mut tries),
                 Some((Asked::Full, _)) if self.grow(false) => pause(&mut tries),
                 Some((Asked::Full, _)) | None => {
                     asker.name = Call::NONE;
-                    return Ok(None);
+                    return Ok(false);
                 }
             }
         }
@@ -130,60 +131,60 @@ impl<T> Shared<T> {
         leading.saturating_mul(2 * self.places.count() as i64) > cells
     }
 
-    /// Settles the call that is led, if one is, with what its load came to, or without a value, and
-    /// tells the receiver of its job, if there is one. Writes how many have joined, and takes the stamp
-    /// from a value that was forgotten.
-    #[inline]
-    pub(crate) fn settle(&self, asker: &mut Asker<T>, mut got: Option<&mut Loaded<T>>) {
+    /// Settles the call that is led, if one is, with the value of its load, or without one, and tells
+    /// the receiver of its job, if there is one. Returns how many have joined, and takes the stamp from
+    /// the call's name if it was forgotten.
+    #[inline(never)]
+    pub(crate) fn settle(&self, asker: &mut Asker<T>, value: Option<&Arc<T>>) -> u32 {
         at("before settle");
-        let value = asker.value.take();
-        asker.record.iter().for_each(|record| record.ends(got.is_some()));
-        value.iter().for_each(|value| value.ends(got.is_some()));
+        let record = asker.value.take();
+        asker.record.iter().for_each(|record| record.ends(value.is_some()));
+        record.iter().for_each(|record| record.ends(value.is_some()));
         let audience = self.places.with(|seat| {
             let audience = seat.handle.settle(asker.lead.as_mut()?);
             seat.settles += 1;
             if audience.is_none() {
-                seat.put(asker.lead.take());
+                seat.put(asker.lead.take()?);
             }
             audience
         });
         let was_forgotten = audience.is_some_and(|audience| audience.forgotten);
         asker.record.iter().for_each(|record| record.settled(was_forgotten));
-        value.into_iter().for_each(|value| value.settled(was_forgotten));
-        if let Some(audience) = audience {
-            self.tell(asker, audience, got.as_deref_mut());
-        }
+        record.into_iter().for_each(|record| record.settled(was_forgotten));
+        let joiners = audience.map_or(0, |audience| self.tell(asker, audience, value));
         asker.record = None;
         if let Some(own) = asker.own.take() {
-            own.tell(Told { got: got.cloned(), record: None }).wake();
+            let got = value.map(|value| asker.loaded(value.clone(), joiners));
+            own.tell(Told { got, record: None }).wake();
         }
+        joiners
     }
 
-    /// The call is settled, and held: tells who joined it, and leaves it.
+    /// The call is settled, and held: tells who joined it, how many they are, and leaves it.
     #[cold]
     #[inline(never)]
-    fn tell(&self, asker: &mut Asker<T>, audience: Audience, mut got: Option<&mut Loaded<T>>) {
+    fn tell(&self, asker: &mut Asker<T>, audience: Audience, value: Option<&Arc<T>>) -> u32 {
         let call = asker.lead.take().expect("the call that is held");
-        let (id, record) = (&asker.name.id, &asker.record);
-        if let Some(got) = &mut got {
-            // One that has left had joined too.
-            let others = audience.holders.saturating_sub(1).max(audience.joined.into());
-            got.joiners = others as u32;
-            if audience.forgotten {
-                got.call.stamp = Stamp::NONE;
-            }
+        // One that has left had joined too.
+        let others = audience.holders.saturating_sub(1).max(audience.joined.into());
+        let joiners = others as u32;
+        if audience.forgotten {
+            asker.name.stamp = Stamp::NONE;
         }
+        let (id, record) = (&asker.name.id, &asker.record);
         at("settled");
         if !audience.joined {
-            return self.leave(call, id);
+            self.leave(call, id);
+            return joiners;
         }
-        let told = Told { got: got.cloned(), record: record.clone() };
-        let mut woken = self.posts.of(id).tell(told);
+        let got = value.map(|value| asker.loaded(value.clone(), joiners));
+        let mut woken = self.posts.of(id).tell(Told { got, record: record.clone() });
         for (noted, at) in woken.left.drain(..) {
             record.iter().for_each(|record| record.enter(&noted, at));
         }
         self.leave(call, id);
         woken.wake();
+        joiners
     }
 
     /// Leaves the call that is held.
@@ -191,7 +192,7 @@ impl<T> Shared<T> {
         at("before leave");
         let is_last = self.places.with(|seat| {
             let is_last = seat.handle.leave(&mut call);
-            seat.put(Some(call));
+            seat.put(call);
             is_last
         });
         if is_last {

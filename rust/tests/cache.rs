@@ -252,9 +252,13 @@ fn a_read_may_use_the_cache() {
     });
     assert_eq!(read, Some((None, 1)));
     let hits = cache.stats().hits;
-    cache.get_or_load("key", || 2);
+    let value = Arc::downgrade(&cache.get_or_load("key", || 2));
     cache.read("key", |_| ());
     assert_eq!(cache.stats().hits, hits + 1);
+    // A read within two others has an `Arc` of its own, and gives it back.
+    let count = |_: &u32| value.strong_count();
+    let third = cache.read("key", |_| cache.read("key", |_| cache.read("key", count)));
+    assert_eq!((third, value.strong_count()), (Some(Some(Some(2))), 1));
 }
 
 // A key that was found some times in turn is remembered beside the shards. Somebody holds the value,

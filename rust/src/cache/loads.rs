@@ -438,9 +438,8 @@ where
         loop {
             let (era, mut left) = (self.era(), Left::new(self));
             let lead = |leads| self.lead(&key, (era, leads), &mut run, &mut left);
-            let got = Asker::new().get(&self.group.shared, &key.name(era), None, lead);
+            let got = Asker::new().get(&self.group.shared, &key.name(era), lead);
             drop(left);
-            let got = got.expect("a wait without a deadline");
             if let Some(got) = self.got(&key, &got, wants_missing) {
                 return got;
             }

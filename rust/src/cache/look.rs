@@ -75,22 +75,26 @@ pub(super) enum Verdict {
     Newer,
 }
 
-/// The value that a call of [`crate::Cache::read`] reads, if there is one. It is filled in place and
-/// never moved: a move would load what was stored in parts just before, which stalls the processor.
+/// The value that a call of [`crate::Cache::read`] reads: one that is held, or else that of an `Arc`.
 pub(super) struct Held<'a, V> {
-    near: Option<(Hold<'a>, NonNull<V>)>,
-    far: Option<Arc<V>>,
+    hold: Option<Hold<'a>>,
+    value: NonNull<V>,
 }
 
 impl<V> Held<'_, V> {
-    pub(super) const NOTHING: Self = Held { near: None, far: None };
-
     #[inline]
-    pub(super) fn value(&self) -> Option<&V> {
-        match &self.near {
-            // SAFETY: the entry is held, and so is the value that it has.
-            Some((_, value)) => Some(unsafe { value.as_ref() }),
-            None => self.far.as_deref(),
+    pub(super) fn value(&self) -> &V {
+        // SAFETY: the entry that has it is held, or this has an `Arc` of it.
+        unsafe { self.value.as_ref() }
+    }
+}
+
+impl<V> Drop for Held<'_, V> {
+    #[inline]
+    fn drop(&mut self) {
+        if self.hold.is_none() {
+            // SAFETY: it is of an `Arc`, which `Inner::hold` has left to this.
+            drop(unsafe { Arc::from_raw(self.value.as_ptr()) });
         }
     }
 }
@@ -149,17 +153,19 @@ where
         if !self.has_times && entry.has_usual_ttl() {
             return Verdict::Fresh { is_due: false, now: None };
         }
-        self.verdict_by_time(entry)
+        let verdict = self.verdict_by_time(entry);
+        verdict.map_or_else(|it| it, |(is_due, now)| Verdict::Fresh { is_due, now })
     }
 
-    fn verdict_by_time(&self, entry: &Entry<K, V, E>) -> Verdict {
+    /// By its times: whether it is due, and the time now, if it is fresh.
+    fn verdict_by_time(&self, entry: &Entry<K, V, E>) -> Result<(bool, Option<Moment>), Verdict> {
         let (ttl, options) = (entry.ttl(self.options.ttl), &self.options);
         let (idle, refresh) = match entry.error() {
             None => (options.idle, options.refresh),
             Some(_) => (u64::MAX, u64::MAX),
         };
         if [ttl, idle, refresh].iter().all(|time| *time == u64::MAX) {
-            return Verdict::Fresh { is_due: false, now: None };
+            return Ok((false, None));
         }
         let (now, born) = (options.clock.now(), entry.born(&self.eras));
         let age = now.since(born);
@@ -168,9 +174,9 @@ where
             late = late.max(now.since(entry.found(born)).checked_sub(idle));
         }
         match late {
-            None => Verdict::Fresh { is_due: age >= refresh, now: Some(now) },
-            Some(late) if late < options.stale && entry.error().is_none() => Verdict::Stale,
-            Some(_) => Verdict::Expired,
+            None => Ok((age >= refresh, Some(now))),
+            Some(late) if late < options.stale && entry.error().is_none() => Err(Verdict::Stale),
+            Some(_) => Err(Verdict::Expired),
         }
     }
 
@@ -181,12 +187,7 @@ where
         K: Borrow<Q>,
         Q: Hash + Eq + ?Sized,
     {
-        let mut got = None;
-        self.find_by(key, |entry, _| {
-            got = Some(Got::of(entry));
-            true
-        });
-        got
+        self.find_by(key, |entry, _| Some(Got::of(entry)))
     }
 
     /// The value of the key. One that finds an error returns nothing.
@@ -196,75 +197,66 @@ where
         K: Borrow<Q>,
         Q: Hash + Eq + ?Sized,
     {
-        let mut value = None;
-        self.find_by(key, |entry, _| {
-            value = entry.value().cloned();
-            value.is_some()
-        });
-        value
+        self.find_by(key, |entry, _| entry.value().cloned())
     }
 
     /// The value of the key for a read, for which no count is written that others write.
     #[inline]
-    pub(super) fn hold<'a, Q>(self: &'a Arc<Self>, key: &At<'_, Q>, held: &mut Held<'a, V>)
+    pub(super) fn hold<'a, Q>(self: &'a Arc<Self>, key: &At<'_, Q>) -> Option<Held<'a, V>>
     where
         K: Borrow<Q>,
         Q: Hash + Eq + ?Sized,
     {
         self.find_by(key, |entry, place| {
-            let Some(value) = entry.value() else { return false };
-            match place.and_then(Taken::hold) {
-                Some(hold) => held.near = Some((hold, NonNull::from(&**value))),
-                None => held.far = Some(value.clone()),
+            let value = entry.value()?;
+            let hold = place.and_then(Taken::hold);
+            if hold.is_none() {
+                // `Held` gives it back.
+                std::mem::forget(value.clone());
             }
-            true
-        });
+            Some(Held { hold, value: NonNull::new(Arc::as_ptr(value).cast_mut())? })
+        })
     }
 
-    /// Calls `take` with the key's entry if that is fresh, without a lock. `take` returns whether it
-    /// took something. A get that takes nothing of an entry has found it all the same.
-    #[inline]
-    fn find_by<'a, Q>(
+    /// What `take` takes of the key's entry if that is fresh, without a lock. A get that takes nothing
+    /// of an entry has found it all the same. All results are of two words at most: one in memory
+    /// would be loaded in one piece just after it was stored in parts, which stalls the processor.
+    #[inline(always)]
+    fn find_by<'a, Q, R>(
         self: &'a Arc<Self>,
         key: &At<'_, Q>,
-        mut take: impl FnMut(&Entry<K, V, E>, Option<&Taken<'a>>) -> bool,
-    ) where
+        take: impl Fn(&Entry<K, V, E>, Option<&Taken<'a>>) -> Option<R>,
+    ) -> Option<R>
+    where
         K: Borrow<Q>,
         Q: Hash + Eq + ?Sized,
     {
-        let places = &self.group.shared.places;
-        let shard = self.shard(key.fingerprint);
-        let mut after = None;
-        let near = shard.look(places, key.print(), key.key, |place, entry| {
-            let verdict = self.verdict(entry, key.era, &mut place.handle);
-            let Verdict::Fresh { is_due, now } = verdict else { return false };
-            place.hits += 1;
-            let is_taken = take(entry, Some(place));
-            entry.mark();
-            if now.is_some() || key.noted.is_some() {
-                after = Some(self.after_hit(key, entry, is_taken, is_due, now));
-            }
-            true
-        });
-        if near != Some(true) {
-            after = self.find_far(key, |entry| take(entry, None));
-            if after.is_none() {
-                return;
-            }
+        let (places, shard) = (&self.group.shared.places, self.shard(key.fingerprint));
+        let Some(mut met) = shard.look(places, key.print(), key.key) else {
+            return self.find_far(key, take);
+        };
+        let (place, entry) = met.parts();
+        let verdict = self.verdict(entry, key.era, &mut place.handle);
+        let Verdict::Fresh { is_due, now } = verdict else {
+            drop(met);
+            return self.find_far(key, take);
+        };
+        place.hits += 1;
+        let taken = take(entry, Some(place));
+        entry.mark();
+        if now.is_some() || key.noted.is_some() {
+            let after = self.after_hit(key, entry, taken.is_some(), is_due, now);
+            drop(met);
+            self.end_hit(key, after);
+        } else {
+            drop(met);
         }
-        if let Some((record, due)) = after {
-            key.enters(record.as_ref());
-            // First: if the recorder panics, nobody else would begin it.
-            if let Some(due) = due {
-                self.refresh(due, key.fingerprint);
-            }
-        }
-        if let Some(recorder) = &self.options.recorder {
-            recorder.hit();
-        }
+        self.options.recorder.iter().for_each(|recorder| recorder.hit());
+        taken
     }
 
     /// What is to be done after a hit, of which something was taken or not.
+    #[inline(always)]
     fn after_hit<Q: ?Sized>(
         &self,
         key: &At<'_, Q>,
@@ -277,6 +269,7 @@ where
     }
 
     /// Notes when an entry was found, if it may be idle. Its key, if this get is to begin its refresh.
+    #[inline(always)]
     fn found(&self, entry: &Entry<K, V, E>, is_due: bool, now: Option<Moment>) -> Option<K> {
         if let Some(now) = now.filter(|_| self.options.idle < u64::MAX) {
             entry.touch(now, entry.born(&self.eras), self.options.idle / IDLE_STEPS);
@@ -287,14 +280,22 @@ where
         key.filter(|_| entry.begins_refresh())
     }
 
+    fn end_hit<Q: ?Sized>(self: &Arc<Self>, key: &At<'_, Q>, (record, due): AfterHit<K>) {
+        key.enters(record.as_ref());
+        // First: if the recorder panics, nobody else would begin it.
+        if let Some(due) = due {
+            self.refresh(due, key.fingerprint);
+        }
+    }
+
     /// Looks once more, with the shard's lock: an entry may have been moved, or come. One that is met
     /// and can never be returned again leaves.
     #[cold]
-    fn find_far<Q>(
-        &self,
+    fn find_far<'a, Q, R>(
+        self: &Arc<Self>,
         key: &At<'_, Q>,
-        take: impl FnOnce(&Entry<K, V, E>) -> bool,
-    ) -> Option<AfterHit<K>>
+        take: impl Fn(&Entry<K, V, E>, Option<&Taken<'a>>) -> Option<R>,
+    ) -> Option<R>
     where
         K: Borrow<Q>,
         Q: Hash + Eq + ?Sized,
@@ -309,9 +310,10 @@ where
                 return (verdict, None);
             };
             seat.hits += 1;
-            let is_taken = take(entry);
+            let taken = take(entry, None);
             entry.mark();
-            (verdict, Some(self.after_hit(key, entry, is_taken, is_due, now)))
+            let after = self.after_hit(key, entry, taken.is_some(), is_due, now);
+            (verdict, Some((taken, after)))
         });
         let reason = match verdict {
             Some(Verdict::Forgotten) => Some(Reason::Forgotten),
@@ -326,7 +328,10 @@ where
         if let (None, Some(recorder)) = (&took, &self.options.recorder) {
             recorder.miss();
         }
-        took
+        let (taken, after) = took?;
+        self.end_hit(key, after);
+        self.options.recorder.iter().for_each(|recorder| recorder.hit());
+        taken
     }
 
     /// What is made of the key's entry now, with the shard's lock. It counts as no get.

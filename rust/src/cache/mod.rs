@@ -37,7 +37,6 @@ use builder::Options;
 use keep::{Begun, Kept, Left, Since};
 pub use loads::{Fetched, LoadError};
 use loads::{Got, Outcome};
-use look::Held;
 use shard::{Apart, Shard, Yard};
 use stats::{add, Counts};
 pub use stats::{CacheStats, Reason, Recorder};
@@ -550,11 +549,7 @@ where
         K: Borrow<Q>,
         Q: Hash + Eq + ?Sized,
     {
-        let made = {
-            let mut held = Held::NOTHING;
-            self.0.hold(&self.0.at(key), &mut held);
-            read(held.value()?)
-        };
+        let made = read(self.0.hold(&self.0.at(key))?.value());
         // It may have left meanwhile.
         self.0.yard.sweep();
         Some(made)

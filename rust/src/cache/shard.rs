@@ -144,16 +144,14 @@ impl<K, V, E> Shard<K, V, E> {
         Some(Shard { table, locked: Apart(Mutex::new(locked)) })
     }
 
-    /// Runs with the key's entry, without a lock. `None` where it finds none, which may be there all
-    /// the same. Nobody frees the entry before this returns; or longer, where `run` takes a hold.
-    #[inline]
-    pub(super) fn look<'p, Q, R>(
-        &self,
-        places: &'p Places,
+    /// The key's entry, without a lock. `None` where it finds none, which may be there all the same.
+    #[inline(always)]
+    pub(super) fn look<'a, Q>(
+        &'a self,
+        places: &'a Places,
         print: u32,
         key: &Q,
-        run: impl FnOnce(&mut Taken<'p>, &Entry<K, V, E>) -> R,
-    ) -> Option<R>
+    ) -> Option<Met<'a, K, V, E>>
     where
         K: Borrow<Q>,
         Q: Eq + ?Sized,
@@ -161,17 +159,18 @@ impl<K, V, E> Shard<K, V, E> {
         point();
         // SAFETY: each table is there as long as the shard.
         let Table(table) = unsafe { &*self.table.load(Acquire) };
-        let (mut at, mut place) = (home(print, table.len()), None::<Taken<'p>>);
-        for _ in 0..table.len() {
-            let mut seen = table[at].load(Acquire);
-            while !seen.is_null() && (seen.addr() & tag(!0)) == tag(print) {
+        let (before, after) = table.split_at(home(print, table.len()));
+        let mut place = None::<Taken<'a>>;
+        for slot in after.iter().chain(before) {
+            let mut seen = slot.load(Acquire);
+            while seen.addr() & tag(!0) == tag(print) && !seen.is_null() {
                 let address = untagged(seen).addr();
                 match &place {
                     Some(place) => place.protect(address),
                     None => place = Some(places.pin(address)?),
                 }
                 point();
-                let again = table[at].load(SeqCst);
+                let again = slot.load(SeqCst);
                 if again != seen {
                     // It has left, and may be freed.
                     seen = again;
@@ -181,14 +180,13 @@ impl<K, V, E> Shard<K, V, E> {
                 // that before it is freed.
                 let entry = unsafe { &*untagged(seen) };
                 if entry.print == print && entry.key.borrow() == key {
-                    return place.as_mut().map(|place| run(place, entry));
+                    return Some(Met { place: place?, entry: entry.into() });
                 }
                 break;
             }
             if seen.is_null() {
                 return None;
             }
-            at = next(at, table.len());
         }
         None
     }
@@ -211,6 +209,21 @@ impl<K, V, E> Drop for Shard<K, V, E> {
             // SAFETY: it was a box, and nobody reads.
             drop(unsafe { Box::from_raw(table.as_ptr()) });
         }
+    }
+}
+
+/// An entry that was found without its shard's lock, and the place that protects it. Nobody frees it
+/// before this is dropped; or longer, where somebody takes a hold of the place.
+pub(super) struct Met<'a, K, V, E> {
+    place: Taken<'a>,
+    entry: NonNull<Entry<K, V, E>>,
+}
+
+impl<'a, K, V, E> Met<'a, K, V, E> {
+    #[inline]
+    pub(super) fn parts(&mut self) -> (&mut Taken<'a>, &Entry<K, V, E>) {
+        // SAFETY: the place protects it: only a look has it protect another. The shard is there.
+        (&mut self.place, unsafe { self.entry.as_ref() })
     }
 }
 

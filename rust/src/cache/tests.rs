@@ -552,7 +552,7 @@ fn entries_are_found_without_a_lock_and_freed_when_nobody_reads() {
     let shard = Alone::new();
     let places = &shard.yard.places();
     places.with(|_| ());
-    let look = |key: u32| shard.shard.look(places, key, &key, |_, entry| entry.value().cloned());
+    let met = |key: u32| shard.shard.look(places, key, &key);
     for key in (0..3_000).map(spread) {
         shard.put(key, key.into());
     }
@@ -564,16 +564,17 @@ fn entries_are_found_without_a_lock_and_freed_when_nobody_reads() {
     for number in 0..3_000 {
         let key = spread(number);
         let expected = (number % 3 != 0).then_some(u64::from(key));
-        assert_eq!(look(key).flatten().map(|value| *value), expected, "{number}");
+        let value = met(key).and_then(|mut met| met.parts().1.value().cloned());
+        assert_eq!(value.map(|value| *value), expected, "{number}");
     }
     let key = spread(1);
-    let value = shard.shard.look(places, key, &key, |place, entry| {
-        let value = Arc::downgrade(entry.value().unwrap());
-        assert_eq!(shard.remove(key), Some(key.into()));
-        assert!(value.upgrade().is_some(), "it is freed while it is read");
-        (value, place.hold())
-    });
-    let (value, hold) = value.unwrap();
+    let mut read = met(key).unwrap();
+    let (place, entry) = read.parts();
+    let value = Arc::downgrade(entry.value().unwrap());
+    assert_eq!(shard.remove(key), Some(key.into()));
+    assert!(value.upgrade().is_some(), "it is freed while it is read");
+    let hold = place.hold();
+    drop(read);
     shard.yard.sweep();
     assert!(value.upgrade().is_some(), "it is freed while it is held");
     drop(hold);
