@@ -5,7 +5,8 @@ use std::collections::hash_map::RandomState;
 use std::hash::{BuildHasher, Hash, Hasher};
 
 /// Hashes of 64 bits under secret seeds. Two keys that feed different bytes have one fingerprint
-/// with a probability of about one in 2^64, and an attacker that chooses keys does not know which.
+/// with a probability of at most one in about 2^60, and an attacker that chooses keys does not know
+/// which.
 pub(crate) struct Fingerprints([u64; 3]);
 
 /// What a fingerprint has come to so far.
