@@ -26,8 +26,11 @@ type queue[K comparable, V any] struct {
 	weight     int64
 }
 
-func (q *queue[K, V]) append(n *node[K, V], number int) {
-	n.set(flagQueue, uint32(number)*(flagQueue/3))
+// inQueue returns the flags of a node that is in the queue. One that is put in or taken out has its flags changed by the caller, with others
+// that change then: each change is a locked instruction.
+func inQueue(number int) uint32 { return uint32(number) * (flagQueue / 3) }
+
+func (q *queue[K, V]) append(n *node[K, V]) {
 	n.before, n.after = q.tail, nil
 	if q.tail == nil {
 		q.head = n
@@ -50,7 +53,6 @@ func (q *queue[K, V]) remove(n *node[K, V]) {
 		n.after.before = n.before
 	}
 	// A node that has left holds no other.
-	n.set(flagQueue, queueNone)
 	n.before, n.after = nil, nil
 	q.weight -= n.cost()
 }
@@ -111,9 +113,9 @@ func (t *values[K, V]) evict(s *valueShard[K, V]) *node[K, V] {
 		if isSmall {
 			marks = 1
 		}
-		n.set(flagMarks, (marks-1)*flagMark)
 		q.remove(n)
-		main.append(n, queueMain)
+		n.set(flagMarks|flagQueue, (marks-1)*flagMark|inQueue(queueMain))
+		main.append(n)
 	}
 }
 

@@ -568,7 +568,9 @@ func (t *values[K, V]) insert(s *valueShard[K, V], n *node[K, V], queue int) {
 	}
 	s.nodes++
 	s.weight += n.cost()
-	s.queue(queue).append(n, queue)
+	// Nobody else has it yet.
+	n.flags = n.flags&^flagQueue | inQueue(queue)
+	s.queue(queue).append(n)
 	if c := t.countsOf(n.print); !n.isError() {
 		c.kept.Add(1)
 	}
@@ -591,7 +593,7 @@ func (t *values[K, V]) remove(s *valueShard[K, V], n *node[K, V], reason Reason)
 	s.queue(n.queue()).remove(n)
 	s.nodes--
 	s.weight -= n.cost()
-	n.set(flagReason, uint32(reason)+1)
+	n.set(flagQueue|flagReason, uint32(reason)+1)
 	if !n.isError() {
 		t.countsOf(n.print).left[reason].Add(1)
 	}
