@@ -10,7 +10,7 @@ use std::test::Fail;
 use std::thread;
 
 // How a thread's askings ended.
-#[derive(Clone, Copy, PartialEq, Eq)]
+#[derive(Clone, Copy)]
 enum AskEnd {
     // One was busy after its one try, and its caller came back.
     Busy,
@@ -62,11 +62,10 @@ fn work(player: Player, met: &AtomicBool) -> AskEnd {
 
 // One is busy at least, and the other is not wrong.
 fn check_ended(rt: &impl Abort, one: AskEnd, two: AskEnd) {
-    assert!(rt;
-        one != AskEnd::Wrong && two != AskEnd::Wrong,
-        "an asking ended otherwise"
-    );
-    assert!(rt; one == AskEnd::Busy || two == AskEnd::Busy, "none is busy");
+    let is_wrong = matches!(one, AskEnd::Wrong) || matches!(two, AskEnd::Wrong);
+    let is_busy = matches!(one, AskEnd::Busy) || matches!(two, AskEnd::Busy);
+    assert!(rt; !is_wrong, "an asking ended otherwise");
+    assert!(rt; is_busy, "none is busy");
 }
 
 #[test]
@@ -74,8 +73,8 @@ fn one_try_is_busy_beside_another(rt: HostRuntime) -> Result<(), Fail> {
     let alloc = rt.alloc();
     let (group, mut list) = Group::<Value>::new(alloc, 1, 2, 1)?;
     let met = AtomicBool::new(false);
-    let two = seat(alloc, &group, &mut list, 1)?;
-    let one = seat(alloc, &group, &mut list, 1)?;
+    let two = seat(&rt, alloc, &group, &mut list, 1);
+    let one = seat(&rt, alloc, &group, &mut list, 1);
     let (one, two) = thread::join(&rt, || work(one, &met), || work(two, &met));
     check_ended(&rt, one, two);
     Ok(())

@@ -54,13 +54,13 @@ fn join_all(rt: &impl Abort, player: &mut Player) {
 #[test]
 fn letter_of_most_joiners_is_copied(rt: HostRuntime) -> Result<(), Fail> {
     let (group, mut list) = Group::<Value>::new(rt.alloc(), 1, 65_535, 1)?;
-    let mut player = seat(rt.alloc(), &group, &mut list, 65_535)?;
+    let mut player = seat(&rt, rt.alloc(), &group, &mut list, 65_535);
     let script = "ask 65535 on 1: 65535 leads 65535.1 on 1";
-    player.play(&rt, rt.alloc(), script)?;
+    player.play(&rt, rt.alloc(), script);
     join_all(&rt, &mut player);
     let script = "settle 65535 with 7: 65535 settled 65535.1 on 1 with 7 joiners=65534
 copy 65535: 65535 copied 65535.1 on 1 with 7 joiners=65534
 ";
-    player.play(&rt, rt.alloc(), script)?;
+    player.play(&rt, rt.alloc(), script);
     Ok(())
 }

@@ -1,5 +1,5 @@
 //! One who obeys scripts: a line has a command and the reply that is due.
-ghost use Rattle.std.specs.Prelude.{◌≡◌, ◌≤◌, All, IfOk};
+ghost use Rattle.std.specs.Prelude.{◌≡◌, ◌≤◌, All};
 
 use crate::commands::Command;
 use crate::replies::Reply;
@@ -20,15 +20,21 @@ pub(crate) struct Player<'a> {
     ghost own: { All (λ s. s.group.now ≡ group.now) seats.items },
 }
 
+/// Fails where memory was refused. A test that returned the error would have to give up each token that it has by then.
+pub(crate) fn had_memory(rt: &impl Abort, had: bool) {
+    assert!(rt; had, "no memory");
+}
+
 /// So many callers of the list, from its end.
 pub(crate) fn seat<'a>(
+    rt: &impl Abort,
     alloc: Global,
     group: &'a Group<Value>,
     list: &mut Vec<Caller<Value>>,
     count: u32,
-) -> Result<Player<'a>, Memory>
+) -> Player<'a>
     requires { All (λ c. c.group ≡ group.now) list.old.items }
-    ensures group { IfOk result (λ player. player.group.now ≡ group.entry.now) }
+    ensures group { result.group.now ≡ group.entry.now }
     ensures rest { All (λ c. c.group ≡ group.entry.now) list.new.items }
 {
     let mut player = Player {
@@ -37,14 +43,14 @@ pub(crate) fn seat<'a>(
         seats: Vec::new(alloc),
     };
     for _ in 0..count {
-        player.seat_last(list)?;
+        player.seat_last(rt, list);
     }
-    Ok(player)
+    player
 }
 
 impl<'a> Player<'a> {
     // The last caller of the list sits down behind the others.
-    fn seat_last(&mut self, list: &mut Vec<Caller<Value>>) -> Result<(), Memory>
+    fn seat_last(&mut self, rt: &impl Abort, list: &mut Vec<Caller<Value>>)
         requires { All (λ c. c.group ≡ self.old.group.now) list.old.items }
         ensures group { self.new.group.now ≡ self.old.group.now }
         ensures rest { All (λ c. c.group ≡ self.old.group.now) list.new.items }
@@ -52,9 +58,8 @@ impl<'a> Player<'a> {
         let group = self.group;
         if let Some(caller) = list.pop() {
             let token = Token::Free(caller, None);
-            self.seats.push(Seat { group, token })?;
+            had_memory(rt, self.seats.push(Seat { group, token }).is_ok());
         }
-        Ok(())
     }
 
     fn take(&mut self, number: u32) -> Seat<'a>
@@ -108,8 +113,9 @@ impl<'a> Player<'a> {
         self.last
     }
 
-    /// Does what the command says, again while a caller waits, 1,000,000 times at most. It gives way between two times.
-    pub(crate) fn obey_often(self, command: Command) -> Reply {
+    /// Does what the line says, again while a caller waits, 1,000,000 times at most. It gives way between two times.
+    pub(crate) fn obey_often(self, line: &str) -> Reply {
+        let command = Command::read(line);
         let mut player = self;
         for _ in 0..1_000_000 {
             let reply = player.obey(command);
@@ -122,22 +128,24 @@ impl<'a> Player<'a> {
     }
 
     /// Obeys the lines of the script in turn. Each is a command, and the reply that is due; or a comment, `# ..`.
-    pub(crate) fn play(
-        &mut self,
-        rt: &impl Abort,
-        alloc: Global,
-        script: &str,
-    ) -> Result<(), Memory> {
+    pub(crate) fn play(&mut self, rt: &impl Abort, alloc: Global, script: &str) {
         for line in script.lines() {
-            let (command, due) = line.split_once(": ").unwrap_or((line, ""));
-            if command.starts_with('#') {
-                continue;
+            let (command, _) = line.split_once(": ").unwrap_or((line, ""));
+            if !command.starts_with('#') {
+                let reply = self.obey(Command::read(command));
+                check_line(rt, alloc, reply, line);
             }
-            let found = self.obey(Command::read(command)).text(alloc)?;
-            assert!(rt; found.as_str() == due, "{line}, but {found}");
         }
-        Ok(())
     }
+}
+
+/// The reply is the one that the line has behind its command.
+pub(crate) fn check_line(rt: &impl Abort, alloc: Global, reply: Reply, line: &str) {
+    let (_, due) = line.split_once(": ").unwrap_or((line, ""));
+    let Ok(found) = reply.text(alloc) else {
+        panic!(rt; "no memory")
+    };
+    assert!(rt; found.as_str() == due, "{line}, but {found}");
 }
 
 // How many places and callers a group has, and their first generation.
@@ -175,8 +183,8 @@ fn play(rt: &impl Abort, alloc: Global, text: &str) -> Result<(), Fail> {
     let sizes = sizes_of(rt, head);
     let (group, mut list) = Group::<Value>::new(alloc, sizes.places, sizes.callers, sizes.first)?;
     assert!(rt; group.places() == sizes.places, "another number of places");
-    let mut player = seat(alloc, &group, &mut list, sizes.callers)?;
-    player.play(rt, alloc, script)?;
+    let mut player = seat(rt, alloc, &group, &mut list, sizes.callers);
+    player.play(rt, alloc, script);
     Ok(())
 }
 

@@ -1,10 +1,10 @@
 //! Calls at random by eight callers of one thread on three places, with copies refused at random, beside the sequential
 //! group, which is told the same.
-ghost use Rattle.std.specs.Prelude.{◌≡◌, ◌<◌, ◌≤◌};
+ghost use Rattle.std.specs.Prelude.{◌<◌};
 
 use crate::commands::Command;
-use crate::player::{Player, seat};
-use crate::replies::Reply;
+use crate::player::{Player, had_memory, seat};
+use crate::replies::{Reply, caller_of};
 use crate::value::Value;
 use sf_group::{CallId, Forgotten, Group, Memory, Share};
 use sf_sequential::{Asked, ChanAsked, ModelRefusal, SeqGroup, Taken};
@@ -129,29 +129,78 @@ fn check_letter(rt: &impl Abort, reply: Reply, did: &str, letter: Expected) {
     );
 }
 
+// The sequential group, as it is told what callers do.
+type Told = SeqGroup<u32, Plain>;
+
 #[derive(Drop)]
 struct Trial<'a> {
     player: Player<'a>,
-    told: SeqGroup<u32, Plain>,
+    told: Told,
     waiting: Vec<Waiting>,
     owing: Vec<Owing>,
     done: Vec<&'static str>,
     asked: u32,
-    ghost callers: { told.callers ≡ 8 },
+}
+
+// These functions have no clauses: the test compares what the sequential group says, and uses none of its promises.
+
+fn tell_ask(
+    rt: &impl Abort,
+    told: &mut Told,
+    caller: u32,
+    place: u32,
+) -> Result<Asked, ModelRefusal> {
+    assert!(rt; told.has_caller(caller), "another caller");
+    told.ask(caller, place)
+}
+
+fn tell_chan(
+    rt: &impl Abort,
+    told: &mut Told,
+    caller: u32,
+    second: u32,
+    place: u32,
+) -> Result<ChanAsked, ModelRefusal> {
+    let both = told.has_caller(caller) && told.has_caller(second);
+    assert!(rt; both, "other callers");
+    told.ask_chan(caller, second, place)
+}
+
+fn tell_settle(rt: &impl Abort, told: &mut Told, caller: u32, number: u32) -> (CallId, u32) {
+    assert!(rt; told.has_caller(caller), "another leader");
+    let Ok(settled) = told.settle(caller, Plain(number)) else {
+        panic!(rt; "it is not leading")
+    };
+    settled
+}
+
+fn tell_take(rt: &impl Abort, told: &mut Told, caller: u32) -> Result<Taken<Plain>, ModelRefusal> {
+    assert!(rt; told.has_caller(caller), "another member");
+    told.take(caller)
+}
+
+fn tell_forget(
+    rt: &impl Abort,
+    told: &mut Told,
+    caller: u32,
+    place: u32,
+) -> Result<Forgotten, ModelRefusal> {
+    assert!(rt; told.has_caller(caller), "another forgetter");
+    told.forget(caller, place)
 }
 
 impl<'a> Trial<'a> {
     // The player obeys; where it can, the sequential group is told the same.
-    fn obey(&mut self, rt: &impl Abort, command: Command) -> Result<(), Memory> {
+    fn obey(&mut self, rt: &impl Abort, command: Command) {
         let reply = self.player.obey(command);
         if reply.did == "cannot" {
-            return Ok(());
+            return;
         }
         let did = match (command.verb, reply.did) {
             ("chan", "is spent") => "is spent, or its second",
             (_, did) => did,
         };
-        self.done.push(did)?;
+        had_memory(rt, self.done.push(did).is_ok());
         match command.verb {
             "ask" => self.check_asked(rt, command, reply),
             "chan" => self.check_chan(rt, command, reply),
@@ -160,37 +209,31 @@ impl<'a> Trial<'a> {
             "poll" => self.check_polled(rt, command.caller, reply),
             "forget" => self.check_forgot(rt, command, reply),
             "current" => self.check_current(rt, reply),
-            _ => Ok(()),
+            _ => {}
         }
     }
 
     // The caller waits for the letter of the call, since this asking.
-    fn wait(&mut self, caller: u32, call: CallId, since: u32) -> Result<(), Memory> {
+    fn wait(&mut self, rt: &impl Abort, caller: u32, call: CallId, since: u32) {
         self.asked = self.asked.wrapping_add(1);
-        self.waiting.push(Waiting {
+        let waiting = Waiting {
             caller,
             call,
             since,
             due: false,
-        })?;
-        Ok(())
+        };
+        had_memory(rt, self.waiting.push(waiting).is_ok());
     }
 
-    fn check_asked(
-        &mut self,
-        rt: &impl Abort,
-        command: Command,
-        reply: Reply,
-    ) -> Result<(), Memory> {
-        assert!(rt; self.told.has_caller(command.caller), "another caller");
-        match self.told.ask(command.caller, command.place) {
+    fn check_asked(&mut self, rt: &impl Abort, command: Command, reply: Reply) {
+        match tell_ask(rt, &mut self.told, command.caller, command.place) {
             Ok(Asked::Lead(call)) => {
                 check(rt, reply, "leads", Some(call));
                 assert!(rt; reply.place == Some(command.place), "another place");
             }
             Ok(Asked::Join(call)) => {
                 check(rt, reply, "joins", Some(call));
-                self.wait(reply.caller, call, self.asked.wrapping_add(1))?;
+                self.wait(rt, reply.caller, call, self.asked.wrapping_add(1));
             }
             Err(refusal) => {
                 check(rt, reply, "is spent", None);
@@ -200,58 +243,46 @@ impl<'a> Trial<'a> {
                 );
             }
         }
-        Ok(())
     }
 
     // The own channel of a call is served last.
-    fn check_chan(
-        &mut self,
-        rt: &impl Abort,
-        command: Command,
-        reply: Reply,
-    ) -> Result<(), Memory> {
+    fn check_chan(&mut self, rt: &impl Abort, command: Command, reply: Reply) {
         let (caller, other) = (command.caller, command.other);
-        let both = self.told.has_caller(caller) && self.told.has_caller(other);
-        assert!(rt; both && reply.caller == caller, "other callers");
-        match self.told.ask_chan(caller, other, command.place) {
+        assert!(rt; reply.caller == caller, "other callers");
+        match tell_chan(rt, &mut self.told, caller, other, command.place) {
             Ok(ChanAsked::Led(call, member)) => {
                 check(rt, reply, "leads with a channel", Some(call));
                 let same = reply.place == Some(command.place) && reply.member == Some(member);
                 assert!(rt; same, "another channel");
-                self.wait(other, call, 0)?;
+                self.wait(rt, other, call, 0);
             }
             Ok(ChanAsked::Joined(call)) => {
                 check(rt, reply, "sends a channel to", Some(call));
-                assert!(rt;
-                    reply.member.is_some_and(|m| m.caller == other),
-                    "another second"
-                );
-                self.wait(other, call, self.asked.wrapping_add(1))?;
+                assert!(rt; caller_of(reply.member) == other, "another second");
+                self.wait(rt, other, call, self.asked.wrapping_add(1));
             }
             Err(refusal) => {
                 check(rt, reply, "is spent", None);
                 assert!(rt; matches!(refusal, ModelRefusal::Spent(_)), "it is refused");
             }
         }
-        Ok(())
     }
 
     // The place among those who wait for the call of the one that is served next: who joined last is the first, and the own
     // channel the last.
     fn next_served(&self, call: CallId) -> Option<usize> {
-        let mut found: Option<(usize, u32)> = None;
+        let mut found: Option<usize> = None;
+        let mut since: u32 = 0;
         let mut index: usize = 0;
         for waiting in self.waiting.as_slice() {
-            let is_first = match found {
-                Some((_, since)) => since < waiting.since,
-                None => true,
-            };
+            let is_first = found.is_none() || since < waiting.since;
             if waiting.call == call && !waiting.due && is_first {
-                found = Some((index, waiting.since));
+                found = Some(index);
+                since = waiting.since;
             }
             index = index.wrapping_add(1);
         }
-        found.map(|(index, _)| index)
+        found
     }
 
     // Those who wait for the call get their letters until a copy is refused; whether all got one, and what is left of the
@@ -275,28 +306,19 @@ impl<'a> Trial<'a> {
     }
 
     // The call is settled: all its letters are handed out, or some are owed still.
-    fn hand_out(&mut self, rt: &impl Abort, reply: Reply, owing: Owing) -> Result<(), Memory> {
+    fn hand_out(&mut self, rt: &impl Abort, reply: Reply, owing: Owing) {
         let (done, refused) = self.deliver(owing.letter.call, owing.refused);
         if done {
             check_letter(rt, reply, "settled", owing.letter);
-            return Ok(());
+            return;
         }
         check(rt, reply, "owes letters", reply.call);
-        self.owing.push(Owing { refused, ..owing })?;
-        Ok(())
+        had_memory(rt, self.owing.push(Owing { refused, ..owing }).is_ok());
     }
 
-    fn check_settled(
-        &mut self,
-        rt: &impl Abort,
-        command: Command,
-        reply: Reply,
-    ) -> Result<(), Memory> {
+    fn check_settled(&mut self, rt: &impl Abort, command: Command, reply: Reply) {
         let caller = command.caller;
-        assert!(rt; self.told.has_caller(caller), "another leader");
-        let Ok((call, joiners)) = self.told.settle(caller, Plain(command.number)) else {
-            panic!(rt; "it is not leading")
-        };
+        let (call, joiners) = tell_settle(rt, &mut self.told, caller, command.number);
         assert!(rt; reply.call == Some(call), "it leads another call");
         let letter = Expected {
             call,
@@ -316,44 +338,58 @@ impl<'a> Trial<'a> {
         )
     }
 
-    fn check_gone_on(&mut self, rt: &impl Abort, caller: u32, reply: Reply) -> Result<(), Memory> {
-        match self.owing.iter().position(|owing| owing.caller == caller) {
-            Some(index) if index < self.owing.len() => {
-                let owing = self.owing.remove(index);
-                self.hand_out(rt, reply, owing)
+    // The place of the caller among those who owe letters.
+    fn owing_at(&self, caller: u32) -> usize {
+        let mut index: usize = 0;
+        for owing in self.owing.as_slice() {
+            if owing.caller == caller {
+                return index;
             }
-            _ => panic!(rt; "it owes no letters"),
+            index = index.wrapping_add(1);
         }
+        index
     }
 
-    fn check_polled(&mut self, rt: &impl Abort, caller: u32, reply: Reply) -> Result<(), Memory> {
-        match self
-            .waiting
-            .iter()
-            .position(|waiting| waiting.caller == caller)
-        {
-            Some(index) if index < self.waiting.len() => {
-                let waiting = self.waiting.remove(index);
-                if waiting.due {
-                    self.check_taken(rt, waiting, reply);
-                } else {
-                    check(rt, reply, "waits for", Some(waiting.call));
-                    self.waiting.push(waiting)?;
-                }
-            }
-            _ => panic!(rt; "it does not wait"),
+    fn check_gone_on(&mut self, rt: &impl Abort, caller: u32, reply: Reply) {
+        let index = self.owing_at(caller);
+        if index >= self.owing.len() {
+            panic!(rt; "it owes no letters");
         }
-        Ok(())
+        let owing = self.owing.remove(index);
+        self.hand_out(rt, reply, owing)
+    }
+
+    // The place of the caller among those who wait.
+    fn waiting_at(&self, caller: u32) -> usize {
+        let mut index: usize = 0;
+        for waiting in self.waiting.as_slice() {
+            if waiting.caller == caller {
+                return index;
+            }
+            index = index.wrapping_add(1);
+        }
+        index
+    }
+
+    fn check_polled(&mut self, rt: &impl Abort, caller: u32, reply: Reply) {
+        let index = self.waiting_at(caller);
+        if index >= self.waiting.len() {
+            panic!(rt; "it does not wait");
+        }
+        let waiting = self.waiting.remove(index);
+        if waiting.due {
+            self.check_taken(rt, waiting, reply);
+        } else {
+            check(rt, reply, "waits for", Some(waiting.call));
+            had_memory(rt, self.waiting.push(waiting).is_ok());
+        }
     }
 
     // The letter is due.
     fn check_taken(&mut self, rt: &impl Abort, waiting: Waiting, reply: Reply) {
         let caller = waiting.caller;
-        assert!(rt;
-            self.told.has_caller(caller) && reply.caller == caller,
-            "another member"
-        );
-        match self.told.take(caller) {
+        assert!(rt; reply.caller == caller, "another member");
+        match tell_take(rt, &mut self.told, caller) {
             Ok(Taken::Got(call, Plain(number), joiners)) => {
                 assert!(rt; waiting.call == call, "a letter too early");
                 let place = reply.place;
@@ -373,22 +409,15 @@ impl<'a> Trial<'a> {
         }
     }
 
-    fn check_forgot(
-        &mut self,
-        rt: &impl Abort,
-        command: Command,
-        reply: Reply,
-    ) -> Result<(), Memory> {
-        assert!(rt; self.told.has_caller(command.caller), "another forgetter");
-        match self.told.forget(command.caller, command.place) {
+    fn check_forgot(&mut self, rt: &impl Abort, command: Command, reply: Reply) {
+        match tell_forget(rt, &mut self.told, command.caller, command.place) {
             Ok(Forgotten::Closed(call)) => check(rt, reply, "forgot", Some(call)),
             Ok(Forgotten::Idle) => check(rt, reply, "forgot nothing", None),
             Err(_) => panic!(rt; "another Forget"),
         }
-        Ok(())
     }
 
-    fn check_current(&mut self, rt: &impl Abort, reply: Reply) -> Result<(), Memory> {
+    fn check_current(&mut self, rt: &impl Abort, reply: Reply) {
         let (Some(call), Some(place)) = (reply.call, reply.place) else {
             panic!(rt; "a letter of no call")
         };
@@ -397,40 +426,46 @@ impl<'a> Trial<'a> {
             said == (reply.did == "finds current"),
             "another answer to a question"
         );
-        Ok(())
     }
 
     // Each caller does the same.
-    fn all(&mut self, rt: &impl Abort, verb: &str) -> Result<(), Memory> {
+    fn all(&mut self, rt: &impl Abort, verb: &str) {
         for index in 0..CALLERS {
-            self.obey(rt, Command::new(verb, index + 1))?;
+            self.obey(rt, Command::new(verb, index + 1));
         }
-        Ok(())
     }
 
     // All that is open is ended, each letter is taken, and each caller is free.
-    fn end_all(&mut self, rt: &impl Abort) -> Result<(), Memory> {
-        self.all(rt, "settle")?;
+    fn end_all(&mut self, rt: &impl Abort) {
+        self.all(rt, "settle");
         for _ in 0..4 {
-            self.all(rt, "go")?;
+            self.all(rt, "go");
         }
-        self.all(rt, "poll")?;
+        self.all(rt, "poll");
         for index in 0..CALLERS {
             let reply = self.player.obey(Command::new("name", index + 1));
             assert!(rt; reply.caller == index + 1, "a caller is lost");
         }
-        Ok(())
+    }
+
+    // How often a caller has done this.
+    fn times(&self, did: &str) -> u32 {
+        let mut count: u32 = 0;
+        for done in self.done.as_slice() {
+            if *done == did {
+                count = count.wrapping_add(1);
+            }
+        }
+        count
     }
 
     // Each kind of call was met often enough.
     fn check_met(&self, rt: &impl Abort) {
         for line in LEAST.lines() {
             let (least, did) = line.split_once(' ').unwrap_or((line, ""));
-            let count = self.done.iter().filter(|done| **done == did).count();
-            assert!(rt;
-                least.parse::<usize>().is_ok_and(|n| n <= count),
-                "{count}, and not {line}"
-            );
+            let count = self.times(did);
+            let least = least.parse::<u32>().unwrap_or(u32::MAX);
+            assert!(rt; least <= count, "{count}, and not {line}");
         }
     }
 }
@@ -442,7 +477,7 @@ fn calls_at_random(rt: HostRuntime) -> Result<(), Fail> {
     let (group, mut list) = Group::<Value>::new(alloc, PLACES, CALLERS, first)?;
     let mut draws = Draws(20_261_123);
     let mut trial = Trial {
-        player: seat(alloc, &group, &mut list, CALLERS)?,
+        player: seat(&rt, alloc, &group, &mut list, CALLERS),
         told: SeqGroup::new(alloc, CALLERS, first),
         waiting: Vec::new(alloc),
         owing: Vec::new(alloc),
@@ -450,9 +485,9 @@ fn calls_at_random(rt: HostRuntime) -> Result<(), Fail> {
         asked: 0,
     };
     for _ in 0..CALLS {
-        trial.obey(&rt, draws.command())?;
+        trial.obey(&rt, draws.command());
     }
-    trial.end_all(&rt)?;
+    trial.end_all(&rt);
     trial.check_met(&rt);
     Ok(())
 }

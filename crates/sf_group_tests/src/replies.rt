@@ -201,6 +201,14 @@ impl Reply {
     }
 }
 
+/// The caller of the call, or 0.
+pub(crate) fn caller_of(call: Option<CallId>) -> u32 {
+    match call {
+        Some(call) => call.caller,
+        None => 0,
+    }
+}
+
 fn write_call(text: &mut String, word: &str, call: Option<CallId>) -> Result<(), Memory> {
     match call {
         Some(call) => write!(text, " {word}{call}"),

@@ -4,7 +4,7 @@ ghost use Rattle.std.specs.Prelude.{◌≤◌};
 
 use crate::commands::Command;
 use crate::player::{Player, seat};
-use crate::replies::Reply;
+use crate::replies::{Reply, caller_of};
 use crate::value::Value;
 use sf_group::{Group, Memory};
 use std::alloc::Global;
@@ -62,12 +62,9 @@ impl<'a> Asked<'a> {
             letter.did == "got" && letter.call == joined.call,
             "another letter"
         );
-        let leader = letter.call.map(|call| call.caller);
-        assert!(rt; letter.number == leader, "a value of another call");
-        assert!(rt;
-            letter.joiners.is_some_and(|joiners| joiners > 0),
-            "it is not shared"
-        );
+        let leader = caller_of(letter.call);
+        assert!(rt; letter.number == Some(leader), "a value of another call");
+        assert!(rt; letter.joiners.unwrap_or(0) > 0, "it is not shared");
     }
 
     // Each letter is there. How many askings led or joined, and how many tries were busy.
@@ -98,11 +95,28 @@ fn work(alloc: Global, player: Player, each: u32) -> Asked {
     asked
 }
 
+// Each caller of both players asks, on two threads.
+fn work_beside<'a, 'b>(
+    rt: &(impl Threads + Sync),
+    alloc: Global,
+    one: Player<'a>,
+    other: Player<'b>,
+    each: u32,
+) -> (Asked<'a>, Asked<'b>) {
+    join(rt, || work(alloc, one, each), || work(alloc, other, each))
+}
+
 // Each asking of a thread led or joined. How many tries were busy.
 fn check_ended(rt: &impl Abort, asked: Asked, each: u32) -> u32 {
     let (ended, busy) = asked.check(rt);
     assert!(rt; ended == each as usize, "not all askings ended");
     busy
+}
+
+// The same of two threads.
+fn check_both(rt: &impl Abort, both: (Asked, Asked), each: u32) -> u32 {
+    let (one, other) = both;
+    check_ended(rt, one, each).wrapping_add(check_ended(rt, other, each))
 }
 
 // Each asking led or joined, each letter is there once all have ended, and no call is left open: one more caller leads. How many
@@ -116,19 +130,19 @@ fn round<R: Abort + Threads + Sync>(
     requires { (1 ≤ each) × (each ≤ 1000) }
 {
     let (group, mut list) = Group::<Value>::new(alloc, 1, 4 * each + 1, 1)?;
-    let mut last = seat(alloc, &group, &mut list, 1)?;
-    let one = seat(alloc, &group, &mut list, each)?;
-    let two = seat(alloc, &group, &mut list, each)?;
-    let three = seat(alloc, &group, &mut list, each)?;
-    let four = seat(alloc, &group, &mut list, each)?;
+    let mut last = seat(rt, alloc, &group, &mut list, 1);
+    let one = seat(rt, alloc, &group, &mut list, each);
+    let two = seat(rt, alloc, &group, &mut list, each);
+    let three = seat(rt, alloc, &group, &mut list, each);
+    let four = seat(rt, alloc, &group, &mut list, each);
     let (half, other) = join(
         rt,
-        || join(rt, || work(alloc, one, each), || work(alloc, two, each)),
-        || join(rt, || work(alloc, three, each), || work(alloc, four, each)),
+        || work_beside(rt, alloc, one, two, each),
+        || work_beside(rt, alloc, three, four, each),
     );
-    let busy = check_ended(rt, half.0, each).wrapping_add(check_ended(rt, half.1, each));
-    let more = check_ended(rt, other.0, each).wrapping_add(check_ended(rt, other.1, each));
-    last.play(rt, alloc, script)?;
+    let busy = check_both(rt, half, each);
+    let more = check_both(rt, other, each);
+    last.play(rt, alloc, script);
     Ok(busy.wrapping_add(more))
 }
 

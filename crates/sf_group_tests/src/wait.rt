@@ -1,7 +1,7 @@
 //! The waiting forms, jobs that workers do, and several threads that ask one group at once.
 
 mod busy;
-mod callers;
+pub(crate) mod callers;
 mod jobs;
 mod reloading;
 mod scenes;

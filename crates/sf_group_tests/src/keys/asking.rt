@@ -1,7 +1,8 @@
 //! One who does keys, with a count of its loads.
 ghost use Rattle.std.specs.Prelude.{◌≡◌, All, length};
 
-use crate::keys::item::{Item, item, next_caller, size_in};
+use crate::keys::item::{Item, item, size_in};
+use crate::wait::callers::next_caller;
 use sf_group::{Caller, Group};
 use sf_keys::{KeyAnswer, Places, do_key, forget_key};
 use sf_wait::DoFault;

@@ -2,7 +2,8 @@
 ghost use Rattle.std.specs.Prelude.{◌≡◌, All};
 
 use crate::keys::asking::Asker;
-use crate::keys::item::{Item, item, next_caller, size_in};
+use crate::keys::item::{Item, item, size_in};
+use crate::wait::callers::next_caller;
 use sf_group::{Begun, Caller, Finished, Flight, Group, MOST_TRIES, Ticket};
 use sf_keys::{KeyPolled, Places, ask_key, poll_key};
 use std::process::Abort;

@@ -1,24 +1,30 @@
 //! Places of known keys, by a seed of zeros: from the SipHash-1-3 of Rust's own `DefaultHasher`.
 use sf_keys::Places;
 use std::io;
+use std::process::Abort;
 use std::random::RandomSource;
+
+fn check_place(rt: &impl Abort, places: Places, key: &[u8], due: u32) {
+    let found = places.of(key);
+    assert!(rt; found == due, "place {found} in place of {due}");
+}
+
+// The places of four keys by the seed.
+fn check_places(rt: &impl Abort, seed0: u64, seed1: u64, due: [u32; 4]) {
+    let places = Places {
+        count: 1_048_576,
+        seed0,
+        seed1,
+    };
+    check_place(rt, places, b"", due[0]);
+    check_place(rt, places, b"a", due[1]);
+    check_place(rt, places, b"user-7", due[2]);
+    check_place(rt, places, b"0123456789abcdef0123", due[3]);
+}
 
 #[test]
 fn known_keys(rt: HostRuntime) {
-    let places = Places {
-        count: 1_048_576,
-        seed0: 0,
-        seed1: 0,
-    };
-    for (key, place) in [
-        (b"".as_slice(), 860_091),
-        (b"a".as_slice(), 264_005),
-        (b"user-7".as_slice(), 968_195),
-        (b"0123456789abcdef0123".as_slice(), 352_494),
-    ] {
-        let found = places.of(key);
-        assert!(rt; found == place, "place {found} in place of {place}");
-    }
+    check_places(&rt, 0, 0, [860_091, 264_005, 968_195, 352_494]);
 }
 
 #[test]
@@ -38,32 +44,10 @@ fn seeds_differ(rt: HostRuntime) {
 #[test]
 fn known_keys_by_two_seeds(rt: HostRuntime) {
     let (low, high) = (0x0706_0504_0302_0100, 0x0f0e_0d0c_0b0a_0908);
-    for (seed0, seed1, due) in [
-        (low, high, [703_169, 115_306, 630_439, 955_816]),
-        (low, 0, [1_001_172, 260_942, 51_473, 732_484]),
-        (0, high, [987_148, 526_466, 635_334, 743_011]),
-        (high, low, [126_714, 750_153, 256_184, 278_844]),
-    ] {
-        let places = Places {
-            count: 1_048_576,
-            seed0,
-            seed1,
-        };
-        let keys = [
-            b"".as_slice(),
-            b"a".as_slice(),
-            b"user-7".as_slice(),
-            b"0123456789abcdef0123".as_slice(),
-        ];
-        for index in 0..4 {
-            let found = places.of(keys[index]);
-            assert!(rt;
-                found == due[index],
-                "place {found} in place of {}",
-                due[index]
-            );
-        }
-    }
+    check_places(&rt, low, high, [703_169, 115_306, 630_439, 955_816]);
+    check_places(&rt, low, 0, [1_001_172, 260_942, 51_473, 732_484]);
+    check_places(&rt, 0, high, [987_148, 526_466, 635_334, 743_011]);
+    check_places(&rt, high, low, [126_714, 750_153, 256_184, 278_844]);
 }
 
 // Bytes from 0 on.

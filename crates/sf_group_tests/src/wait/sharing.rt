@@ -8,8 +8,9 @@ use crate::wait::seats::Seat;
 use crate::wait::stage::Stage;
 use crate::wait::value::Value;
 use sf_dir::{Desk, Directory};
-use sf_group::{CallId, Caller, Group, Letter};
+use sf_group::{CallId, Caller, Group, Letter, Memory};
 use sf_wait::{DoFault, do_with};
+use std::alloc::Global;
 use std::marker::Model;
 use std::process::Abort;
 use std::sync::Wait;
@@ -159,18 +160,10 @@ fn four_threads_over_eight_places(rt: HostRuntime) -> Result<(), Fail> {
     Ok(())
 }
 
-// The next caller sits at the place that the next desk finds for the key.
-fn next_seat<'a>(
-    rt: &impl Abort,
-    directory: &Directory,
-    desks: &mut Vec<Desk>,
-    group: &'a Group<Value>,
-    list: &mut Vec<Caller<Value>>,
-) -> Seat<'a>
-    requires desks { All (λ d. d.directory ≡ directory.now) desks.old.items }
-    requires own { All (λ c. c.group ≡ group.now) list.old.items }
-    ensures desks { All (λ d. d.directory ≡ directory.now) desks.new.items }
-    ensures rest { All (λ c. c.group ≡ group.now) list.new.items }
+// The place that the next desk finds for the key.
+fn next_place(rt: &impl Abort, directory: &Directory, desks: &mut Vec<Desk>) -> u32
+    requires { All (λ d. d.directory ≡ directory.now) desks.old.items }
+    ensures { All (λ d. d.directory ≡ directory.now) desks.new.items }
 {
     let Some(mut desk) = desks.pop() else {
         panic!(rt; "no more desks")
@@ -178,9 +171,29 @@ fn next_seat<'a>(
     let Ok(place) = directory.resolve(&mut desk, b"key") else {
         panic!(rt; "no place")
     };
-    let number = place.number().number();
-    assert!(rt; group.has(number), "no place {number}");
-    Seat::next(group, list, number)
+    place.number().number()
+}
+
+// The places that two desks of a directory find for the key.
+fn two_places(rt: &impl Abort, alloc: Global) -> Result<(u32, u32), Memory> {
+    let (directory, mut desks) = Directory::new(alloc, 4, 8, 2, 0, 0)?;
+    let second = next_place(rt, &directory, &mut desks);
+    let first = next_place(rt, &directory, &mut desks);
+    Ok((first, second))
+}
+
+// The next caller sits at the place.
+fn next_seat<'a>(
+    rt: &impl Abort,
+    group: &'a Group<Value>,
+    list: &mut Vec<Caller<Value>>,
+    place: u32,
+) -> Seat<'a>
+    requires { All (λ c. c.group ≡ group.now) list.old.items }
+    ensures { All (λ c. c.group ≡ group.now) list.new.items }
+{
+    assert!(rt; group.has(place), "no place {place}");
+    Seat::next(group, list, place)
 }
 
 #[test]
@@ -191,10 +204,10 @@ b await led
 b ask: joins 1.1
 b wait: 2 got 1.1 with 7 joiners=1 shared=true
 b loads: 1";
-    let (directory, mut desks) = Directory::new(rt.alloc(), 4, 8, 2, 0, 0)?;
+    let (first, second) = two_places(&rt, rt.alloc())?;
     let (group, mut list) = Group::<Value>::new(rt.alloc(), 4, 2, 1)?;
-    let second = next_seat(&rt, &directory, &mut desks, &group, &mut list);
-    let first = next_seat(&rt, &directory, &mut desks, &group, &mut list);
+    let second = next_seat(&rt, &group, &mut list, second);
+    let first = next_seat(&rt, &group, &mut list, first);
     play(&Stage::new(&rt, rt.alloc()), first, second, scene);
     Ok(())
 }
