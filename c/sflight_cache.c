@@ -292,7 +292,8 @@ static uint64_t four_at(const uint8_t *bytes) {
 }
 
 /* Under secret seeds, so that nobody can choose keys that meet. The last 16 bytes are read as two words, or what
- * there is as words that overlap. */
+ * there is as words that overlap: they wait for no multiplication of those before. The length tells keys apart whose
+ * words are the same, by the seed that it chooses. */
 static uint64_t hash_of(const sflight_cache *c, const uint8_t *key, size_t len) {
     uint64_t state = c->seeds[0], first = 0, second = 0, length = len;
     for (; len > 16; key += 16, len -= 16) state = fold(eight_at(key) ^ state, eight_at(key + 8) ^ c->seeds[1]);
@@ -308,8 +309,8 @@ static uint64_t hash_of(const sflight_cache *c, const uint8_t *key, size_t len) 
     } else if (len > 0) {
         first = (uint64_t)key[0] << 16 | (uint64_t)key[len / 2] << 8 | key[len - 1];
     }
-    state = fold(first ^ state, second ^ c->seeds[2]);
-    return fold(state ^ c->seeds[1] ^ length, c->seeds[2] ^ c->seeds[0]);
+    state += fold(first ^ c->seeds[0], second ^ c->seeds[2] * (2 * length + 1));
+    return fold(state ^ c->seeds[1], c->seeds[2] ^ c->seeds[0]);
 }
 
 static struct shard *shard_of(sflight_cache *c, uint64_t hash) { return &c->shards[(hash >> 48) * c->count >> 16]; }
@@ -413,7 +414,7 @@ static uint64_t from_of(const struct noted *noted) { return noted->by ? noted->f
 static uint64_t hash_of_entry(const sflight_cache *c, const struct sflight_entry *e) { return hash_of(c, key_of(e), e->len); }
 
 /* One count ends. The last one drops the value. No lock is held. */
-static void leave_entry(sflight_cache *c, struct sflight_entry *e) {
+APART static void leave_entry(sflight_cache *c, struct sflight_entry *e) {
     if (atomic_fetch_sub_explicit(&e->users, 1, memory_order_acq_rel) != 1) return;
     void *value = e->value;
     if (e->has & HAS_RECORD) recording_of(c)->drops(record_of(e));
