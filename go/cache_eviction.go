@@ -26,10 +26,10 @@ type queue[K comparable, V any] struct {
 	weight     int64
 }
 
-// inQueue returns the flags of a node that is in the queue. One that is put in or taken out has its flags changed by the caller, with others
-// that change then: each change is a locked instruction.
+// inQueue returns the flags of a node that is in the queue of this number.
 func inQueue(number int) uint32 { return uint32(number) * (flagQueue / 3) }
 
+// append puts a node at the end. The caller sets the node's flags, with others that change then: each change is a locked instruction.
 func (q *queue[K, V]) append(n *node[K, V]) {
 	n.before, n.after = q.tail, nil
 	if q.tail == nil {
@@ -41,6 +41,7 @@ func (q *queue[K, V]) append(n *node[K, V]) {
 	q.weight += n.cost()
 }
 
+// remove takes a node out. The caller sets its flags, as for append.
 func (q *queue[K, V]) remove(n *node[K, V]) {
 	if n.before == nil {
 		q.head = n.after

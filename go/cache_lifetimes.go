@@ -28,6 +28,7 @@ var started = time.Now()
 
 func instantOf(t time.Time) instant { return instant{int64(t.Sub(started)), t.UnixNano()} }
 
+// now returns this moment by both clocks, or by the one of WithClock.
 func (l *lifetimes) now() instant {
 	if l.clock != nil {
 		return l.clock()
@@ -35,7 +36,7 @@ func (l *lifetimes) now() instant {
 	return instantOf(time.Now())
 }
 
-// since returns how long ago that was, by the steady clock. It does not read the other one, since each reading takes 20 ns.
+// since returns how long ago that was by the steady clock. It does not read the wall clock, which costs a call of the system's code.
 func (l *lifetimes) since(steady int64) time.Duration {
 	if l.clock != nil {
 		return time.Duration(l.clock().steady - steady)
