@@ -69,6 +69,12 @@
 /* A function that few hits call: in line it would make those longer that all of them call. */
 #define APART __attribute__((noinline))
 
+/* A part of each hit: as a function of its own it would save registers, and be passed what the hit has in them. */
+#define IN_LINE static inline __attribute__((always_inline))
+
+/* What is so in few hits. */
+#define RARELY(it) __builtin_expect(!!(it), 0)
+
 /* A step between two that other threads may see. Tests stop threads here. */
 #ifndef SFLIGHT_POINT
 #define SFLIGHT_POINT(where) ((void)0)
@@ -96,6 +102,7 @@ enum {
     TAG_CELLS_OF_ENTRY = 4, /* so that a ForgetTag seldom ends the values of another tag */
     FIRST_BUCKET = 1000, /* nanoseconds: a load that takes no more is in the first bucket */
     NEXT_BUCKET = 4,     /* each bucket reaches so many times as far as the one before it */
+    SECOND_LINE = 16,   /* so far behind its head an entry reaches into its second line of memory, if it has one */
     IDLE_PART = 16,     /* a hit is written down in steps of this part of the idle time */
     ERAS = 64
 };
@@ -274,18 +281,18 @@ struct runner {
 
 __extension__ typedef unsigned __int128 wide;
 
-static uint64_t fold(uint64_t a, uint64_t b) {
+IN_LINE uint64_t fold(uint64_t a, uint64_t b) {
     wide product = (wide)a * b;
     return (uint64_t)product ^ (uint64_t)(product >> 64);
 }
 
-static uint64_t eight_at(const uint8_t *bytes) {
+IN_LINE uint64_t eight_at(const uint8_t *bytes) {
     uint64_t word;
     memcpy(&word, bytes, 8);
     return word;
 }
 
-static uint64_t four_at(const uint8_t *bytes) {
+IN_LINE uint64_t four_at(const uint8_t *bytes) {
     uint32_t word;
     memcpy(&word, bytes, 4);
     return word;
@@ -294,7 +301,7 @@ static uint64_t four_at(const uint8_t *bytes) {
 /* Under secret seeds, so that nobody can choose keys that meet. The last 16 bytes are read as two words, or what
  * there is as words that overlap: they wait for no multiplication of those before. The length tells keys apart whose
  * words are the same, by the seed that it chooses. */
-static uint64_t hash_of(const sflight_cache *c, const uint8_t *key, size_t len) {
+IN_LINE uint64_t hash_in_line(const sflight_cache *c, const uint8_t *key, size_t len) {
     uint64_t state = c->seeds[0], first = 0, second = 0, length = len;
     for (; len > 16; key += 16, len -= 16) state = fold(eight_at(key) ^ state, eight_at(key + 8) ^ c->seeds[1]);
     if (length >= 16) {
@@ -313,7 +320,19 @@ static uint64_t hash_of(const sflight_cache *c, const uint8_t *key, size_t len) 
     return fold(state ^ c->seeds[1], c->seeds[2] ^ c->seeds[0]);
 }
 
-static struct shard *shard_of(sflight_cache *c, uint64_t hash) { return &c->shards[(hash >> 48) * c->count >> 16]; }
+APART static uint64_t hash_of(const sflight_cache *c, const uint8_t *key, size_t len) { return hash_in_line(c, key, len); }
+
+/* Whether the keys of this length are the same. Most have so few bytes that a call of memcmp takes longer than to compare
+ * them as words, which overlap. */
+IN_LINE bool are_same(const uint8_t *a, const uint8_t *b, size_t len) {
+    if (len > 32 || len < 4) return len == 0 || memcmp(a, b, len) == 0;
+    if (len < 8) return ((four_at(a) ^ four_at(b)) | (four_at(a + len - 4) ^ four_at(b + len - 4))) == 0;
+    uint64_t ends = (eight_at(a) ^ eight_at(b)) | (eight_at(a + len - 8) ^ eight_at(b + len - 8));
+    if (len > 16) ends |= (eight_at(a + 8) ^ eight_at(b + 8)) | (eight_at(a + len - 16) ^ eight_at(b + len - 16));
+    return ends == 0;
+}
+
+IN_LINE struct shard *shard_of(sflight_cache *c, uint64_t hash) { return &c->shards[(hash >> 48) * c->count >> 16]; }
 
 static int64_t time_of(const sflight_cache *c, bool is_wall) {
     struct timespec at;
@@ -398,18 +417,21 @@ static void watch(sflight_cache *c, struct noted *noted) {
     if (noted->by) recording_of(c)->watches(noted);
 }
 
+/* Whether a get is recorded. One whose part is null is not. */
+IN_LINE bool is_watched(const struct noted *noted) { return noted && noted->by; }
+
 /* The get holds the record of the entry, if it has one of its recording. Returns false where the entry has left. */
-static bool holds_record(sflight_cache *c, struct noted *noted, struct sflight_entry *e) {
-    return !noted->by || !(e->has & HAS_RECORD) || recording_of(c)->holds(noted, record_of(e));
+IN_LINE bool holds_record(sflight_cache *c, struct noted *noted, struct sflight_entry *e) {
+    return !is_watched(noted) || !(e->has & HAS_RECORD) || recording_of(c)->holds(noted, record_of(e));
 }
 
 /* The get lets go of it, and has its value or not. */
-static void enters(sflight_cache *c, struct noted *noted, bool has) {
-    if (noted->by) recording_of(c)->enters(noted, has);
+IN_LINE void enters(sflight_cache *c, struct noted *noted, bool has) {
+    if (is_watched(noted)) recording_of(c)->enters(noted, has);
 }
 
 /* When the get began, for its asking. */
-static uint64_t from_of(const struct noted *noted) { return noted->by ? noted->from : 0; }
+static uint64_t from_of(const struct noted *noted) { return is_watched(noted) ? noted->from : 0; }
 
 static uint64_t hash_of_entry(const sflight_cache *c, const struct sflight_entry *e) { return hash_of(c, key_of(e), e->len); }
 
@@ -479,7 +501,7 @@ static void leave_unheld(sflight_cache *c, struct sflight_entry *list) {
 }
 
 /* Frees the place. Returns whether entries wait for that: then the caller is to call collect, once it is done with the place. */
-static inline bool let_go(sflight_cache *c, struct hold *place) {
+IN_LINE bool let_go(sflight_cache *c, struct hold *place) {
     if (atomic_load_explicit(&c->is_fenced, memory_order_relaxed)) {
         atomic_store(&place->entry, FREE_PLACE);
         return atomic_load(&place->owed) != NULL;
@@ -616,7 +638,7 @@ static enum worth state_by_parts(sflight_cache *c, struct sflight_entry *e, stru
 }
 
 /* What the entry is, where `is_still` says whether no Forget of its key has ended it. */
-static inline enum worth state_of(sflight_cache *c, struct sflight_entry *e, bool is_still, struct moment *now) {
+IN_LINE enum worth state_of(sflight_cache *c, struct sflight_entry *e, bool is_still, struct moment *now) {
     if (!is_still) return GONE;
     return e->has & (HAS_TAGS | HAS_LIFE) ? state_by_parts(c, e, now) : FRESH;
 }
@@ -627,16 +649,20 @@ static enum worth state_now(sflight_cache *c, struct sflight_entry *e) {
     return state_of(c, e, sflight_do_is_still(c->pool, &stamp), &now);
 }
 
-/* A get has found the entry. */
-static void use(sflight_cache *c, struct sflight_entry *e, const struct moment *now) {
-    unsigned char uses = atomic_load_explicit(&e->uses, memory_order_relaxed);
-    if (uses < MOST_USES) atomic_store_explicit(&e->uses, (unsigned char)(uses + 1), memory_order_relaxed);
-    if (!(e->has & HAS_IDLE)) return;
+/* Notes when the entry was hit, which may be idle. */
+APART static void note_hit(sflight_cache *c, struct sflight_entry *e, const struct moment *now) {
     int64_t age = now->steady - (int64_t)e->rest[0], tick = c->tick;
     _Atomic(int32_t) *last = last_hit_of(e);
     if ((uint64_t)(age - atomic_load_explicit(last, memory_order_relaxed) * tick) < (uint64_t)tick) return;
     /* Of an age of more than 2^31 ticks this is an earlier one: such an entry has its end. */
     atomic_store_explicit(last, (int32_t)(age / tick), memory_order_relaxed);
+}
+
+/* A get has found the entry. */
+IN_LINE void use(sflight_cache *c, struct sflight_entry *e, const struct moment *now) {
+    unsigned char uses = atomic_load_explicit(&e->uses, memory_order_relaxed);
+    if (uses < MOST_USES) atomic_store_explicit(&e->uses, (unsigned char)(uses + 1), memory_order_relaxed);
+    if (e->has & HAS_IDLE) note_hit(c, e, now);
 }
 
 /* Tables. */
@@ -647,8 +673,8 @@ static struct sflight_entry *entry_of(uint64_t word) { return (struct sflight_en
 
 static uint64_t home_of(const struct table *t, uint64_t hash) { return (hash & UINT32_MAX) * t->count >> 32; }
 
-static bool is_of_key(const struct sflight_entry *e, const uint8_t *key, size_t len) {
-    return e->len == len && (len == 0 || memcmp(key_of(e), key, len) == 0);
+IN_LINE bool is_of_key(const struct sflight_entry *e, const uint8_t *key, size_t len) {
+    return e->len == len && are_same(key_of(e), key, len);
 }
 
 /* Entries are not spread evenly over shards: a table for so many has room for some more. */
@@ -837,31 +863,50 @@ static bool make_room(sflight_cache *c, uint64_t weight, unsigned first, struct 
 /* Finding. */
 
 /* A place of this thread that holds nothing, or null. */
-static struct hold *free_place(struct seat *seat) {
+IN_LINE struct hold *free_place(struct seat *seat) {
     for (int i = 0; i < HOLDS; i++) if (atomic_load_explicit(&seat->holds[i].entry, memory_order_acquire) == FREE_PLACE) return &seat->holds[i];
     return NULL;
 }
 
-/* Looks for the key without a lock. Where it finds it, this place holds the entry. It can miss an entry that
+/* Looks for the key in the chunk without a lock. Where it finds it, this place holds the entry. It can miss an entry that
  * comes or goes meanwhile. Where *is_owed, it has not looked everywhere, since entries wait for the place. */
-static struct sflight_entry *hold(sflight_cache *c, struct hold *place, uint64_t hash, const uint8_t *key, size_t len, bool *is_owed) {
-    struct table *t = atomic_load_explicit(&shard_of(c, hash)->table, memory_order_acquire);
-    const uint64_t tag = tag_of(hash);
-    for (uint64_t n = home_of(t, hash), tries = 0; tries < t->count; n = n + 1 == t->count ? 0 : n + 1, tries++) {
-        struct chunk *chunk = &t->chunks[n];
-        for (int i = 0; i < PER_CHUNK; i++) {
-            uint64_t word = atomic_load_explicit(&chunk->words[i], memory_order_acquire);
-            if (!word || (word ^ tag) >> 48 != 0) continue;
-            struct sflight_entry *e = entry_of(word);
-            SFLIGHT_POINT("before hold");
-            atomic_store(&place->entry, (uintptr_t)e);
-            SFLIGHT_POINT("named");
-            if (atomic_load(&chunk->words[i]) == word && is_of_key(e, key, len)) return e;
-            if ((*is_owed = let_go(c, place))) return NULL;
-        }
-        if (atomic_load_explicit(&chunk->passed, memory_order_acquire) == 0) break;
+IN_LINE struct sflight_entry *hold_in(sflight_cache *c, struct hold *place, struct chunk *chunk, uint64_t tag, const uint8_t *key, size_t len, bool *is_owed) {
+    for (int i = 0; i < PER_CHUNK; i++) {
+        uint64_t word = atomic_load_explicit(&chunk->words[i], memory_order_acquire);
+        struct sflight_entry *e = entry_of(word);
+        if ((word ^ tag) >> 48 != 0 || RARELY(!e)) continue;
+        /* It may be freed, so it is not read before it is held. The processor can fetch its lines of memory all the same,
+         * while it makes the store: no load behind that begins before it is done. */
+        __builtin_prefetch(&e->value);
+        __builtin_prefetch((const char *)&e->rest + SECOND_LINE);
+        SFLIGHT_POINT("before hold");
+        atomic_store(&place->entry, (uintptr_t)e);
+        SFLIGHT_POINT("named");
+        if (atomic_load(&chunk->words[i]) == word && is_of_key(e, key, len)) return e;
+        if ((*is_owed = let_go(c, place))) return NULL;
     }
     return NULL;
+}
+
+/* Goes on in the chunks behind the key's own, as far as entries of that have passed. */
+APART static struct sflight_entry *hold_behind(sflight_cache *c, struct hold *place, struct table *t, uint64_t n, uint64_t tag, const uint8_t *key,
+                                               size_t len, bool *is_owed) {
+    struct sflight_entry *e = NULL;
+    for (uint64_t tries = 1; tries < t->count && !e && !*is_owed; tries++) {
+        if (atomic_load_explicit(&t->chunks[n].passed, memory_order_acquire) == 0) break;
+        n = n + 1 == t->count ? 0 : n + 1;
+        e = hold_in(c, place, &t->chunks[n], tag, key, len, is_owed);
+    }
+    return e;
+}
+
+/* Looks for the key in the table of its shard as hold_in does. */
+IN_LINE struct sflight_entry *hold(sflight_cache *c, struct hold *place, uint64_t hash, const uint8_t *key, size_t len, bool *is_owed) {
+    struct table *t = atomic_load_explicit(&shard_of(c, hash)->table, memory_order_acquire);
+    const uint64_t tag = tag_of(hash), n = home_of(t, hash);
+    struct sflight_entry *e = hold_in(c, place, &t->chunks[n], tag, key, len, is_owed);
+    if (e || *is_owed || atomic_load_explicit(&t->chunks[n].passed, memory_order_acquire) == 0) return e;
+    return hold_behind(c, place, t, n, tag, key, len, is_owed);
 }
 
 static void count_look(sflight_cache *c, struct seat *seat, bool is_hit) {
@@ -875,7 +920,8 @@ enum { NOT_THERE = -1 };
 
 /* Finds the value of the key with the lock of its shard. Returns HIT, or the code of a kept failure; or
  * NOT_THERE. What nobody will find any more leaves. */
-APART static int look_locked(sflight_cache *c, uint64_t hash, const uint8_t *key, size_t len, bool counts, sflight_value *value, struct noted *noted) {
+APART static int look_locked(sflight_cache *c, const uint8_t *key, size_t len, bool counts, sflight_value *value, struct noted *noted) {
+    uint64_t hash = hash_of(c, key, len);
     struct shard *s = shard_of(c, hash);
     struct sflight_entry *left = NULL;
     struct moment now = {0, 0};
@@ -903,17 +949,18 @@ APART static int look_locked(sflight_cache *c, uint64_t hash, const uint8_t *key
     return code;
 }
 
-/* Finds the value of the key as look_locked does, with no lock where it is there and the thread has a place for it. */
-static int look(sflight_cache *c, uint64_t hash, const uint8_t *key, size_t len, bool counts, sflight_value *value, struct noted *noted) {
+/* Finds the value of the key as look_locked does, with no lock where it is there and the thread has a place for it. A get
+ * that is not recorded may have null for its part. */
+IN_LINE int look_in_line(sflight_cache *c, uint64_t hash, const uint8_t *key, size_t len, bool counts, sflight_value *value, struct noted *noted) {
     struct seat *seat = seat_of(c->pool);
     bool is_owed = false;
     struct hold *place = seat ? free_place(seat) : NULL;
-    if (!place) return look_locked(c, hash, key, len, counts, value, noted);
+    if (!place) return look_locked(c, key, len, counts, value, noted);
     struct sflight_entry *e = hold(c, place, hash, key, len, &is_owed);
     if (!e) {
         if (is_owed) collect(c, place);
         /* What was there alone is worth a second look: a get asks the group next, and its leader looks again. */
-        if (!counts || is_owed) return look_locked(c, hash, key, len, counts, value, noted);
+        if (!counts || is_owed) return look_locked(c, key, len, counts, value, noted);
         add(&seat->misses, 1);
         return NOT_THERE;
     }
@@ -923,7 +970,7 @@ static int look(sflight_cache *c, uint64_t hash, const uint8_t *key, size_t len,
     enum worth state = state_of(c, e, sflight_is_still(&seat->handle, &stamp), &now);
     if (state < FRESH || !holds_record(c, noted, e)) {
         if (let_go(c, place)) collect(c, place);
-        return look_locked(c, hash, key, len, counts, value, noted);
+        return look_locked(c, key, len, counts, value, noted);
     }
     int code = e->code;
     enters(c, noted, counts || code == SFLIGHT_CACHE_HIT);
@@ -935,6 +982,11 @@ static int look(sflight_cache *c, uint64_t hash, const uint8_t *key, size_t len,
     if (code == SFLIGHT_CACHE_HIT) *value = (sflight_value){e->value, e, place};
     else if (let_go(c, place)) collect(c, place);
     return code;
+}
+
+/* The same for what is no plain get, and for one that is recorded. */
+APART static int look(sflight_cache *c, uint64_t hash, const uint8_t *key, size_t len, bool counts, sflight_value *value, struct noted *noted) {
+    return look_in_line(c, hash, key, len, counts, value, noted);
 }
 
 /* Loads. */
@@ -1508,26 +1560,35 @@ static const struct timespec *deadline_of_get(const sflight_cache_how *how, stru
     return at;
 }
 
-int sflight_cache_get_with(sflight_cache *c, const uint8_t *key, size_t len, const sflight_cache_how *how, sflight_value *value) {
+/* A get that was no hit with a value: its code says what its look has found. */
+APART static int go_on(sflight_cache *c, int code, const uint8_t *key, size_t len, const sflight_cache_how *how, sflight_value *value,
+                       const struct noted *noted) {
     struct timespec at;
-    struct noted noted;
-    watch(c, &noted);
-    uint64_t hash = hash_of(c, key, len);
     *value = (sflight_value){0};
-    int code = look(c, hash, key, len, true, value, &noted);
     if (code != NOT_THERE) return code;
     sflight_cache_how alone = how ? *how : plain;
     alone.load_many = NULL;
-    return get_missing(c, hash, key, len, &alone, deadline_of_get(&alone, &at), value, &noted);
+    return get_missing(c, hash_of(c, key, len), key, len, &alone, deadline_of_get(&alone, &at), value, noted);
+}
+
+/* A get in a cache that is recorded. */
+APART static int get_recorded(sflight_cache *c, const uint8_t *key, size_t len, const sflight_cache_how *how, sflight_value *value) {
+    struct noted noted;
+    watch(c, &noted);
+    int code = look(c, hash_of(c, key, len), key, len, true, value, &noted);
+    return code == SFLIGHT_CACHE_HIT ? code : go_on(c, code, key, len, how, value, &noted);
+}
+
+int sflight_cache_get_with(sflight_cache *c, const uint8_t *key, size_t len, const sflight_cache_how *how, sflight_value *value) {
+    if (RARELY(atomic_load_explicit(&c->pool->recorder, memory_order_acquire))) return get_recorded(c, key, len, how, value);
+    int code = look_in_line(c, hash_in_line(c, key, len), key, len, true, value, NULL);
+    return code == SFLIGHT_CACHE_HIT ? code : go_on(c, code, key, len, how, value, NULL);
 }
 
 int sflight_cache_get(sflight_cache *c, const uint8_t *key, size_t len, sflight_value *value) {
-    struct noted noted;
-    watch(c, &noted);
-    uint64_t hash = hash_of(c, key, len);
-    *value = (sflight_value){0};
-    int code = look(c, hash, key, len, true, value, &noted);
-    return code != NOT_THERE ? code : get_missing(c, hash, key, len, &plain, NULL, value, &noted);
+    if (RARELY(atomic_load_explicit(&c->pool->recorder, memory_order_acquire))) return get_recorded(c, key, len, NULL, value);
+    int code = look_in_line(c, hash_in_line(c, key, len), key, len, true, value, NULL);
+    return code == SFLIGHT_CACHE_HIT ? code : go_on(c, code, key, len, NULL, value, NULL);
 }
 
 bool sflight_cache_peek(sflight_cache *c, const uint8_t *key, size_t len, sflight_value *value) {

@@ -396,6 +396,53 @@ static void test_many_entries(void) {
     }
 }
 
+/* Keys of each length that differ in one byte, in blocks of that length, are told apart. */
+static void test_comparison(void) {
+    int wrong = 0;
+    for (size_t len = 0; len < 70; len++) {
+        uint8_t *a = malloc(len), *b = malloc(len);
+        for (size_t i = 0; i < len; i++) a[i] = b[i] = (uint8_t)(7 * i + len);
+        wrong += !are_same(a, b, len);
+        for (size_t i = 0; i < len; i++) {
+            b[i] ^= (uint8_t)(1u << i % 8);
+            wrong += are_same(a, b, len);
+            b[i] = a[i];
+        }
+        free(a);
+        free(b);
+    }
+    check(wrong == 0 && are_same(NULL, (const uint8_t *)"", 0), "keys are the same in all bytes");
+}
+
+/* A get finds each key without a lock, also where its own chunk was full. */
+static void test_full_chunks(void) {
+    struct plan plan = {0};
+    sflight_cache *cache = open_cache(MANY, 1000, &plan);
+    char key[24];
+    int found = 0;
+    uint64_t passed_by = 0;
+    for (int i = 0; i < MANY; i++) {
+        snprintf(key, sizeof key, "full-%d", i);
+        get_text(cache, key);
+    }
+    struct hold *place = free_place(seat_of(cache->pool));
+    for (int i = 0; i < MANY; i++) {
+        bool is_owed = false;
+        snprintf(key, sizeof key, "full-%d", i);
+        size_t len = strlen(key);
+        struct sflight_entry *e = hold(cache, place, hash_of(cache, (const uint8_t *)key, len), (const uint8_t *)key, len, &is_owed);
+        found += e && is_of_key(e, (const uint8_t *)key, len) && !is_owed;
+        let_go(cache, place);
+    }
+    for (unsigned i = 0; i < cache->count; i++) {
+        struct table *t = cache->shards[i].table;
+        for (uint64_t n = 0; n < t->count; n++) passed_by += t->chunks[n].passed;
+    }
+    check(found == MANY && passed_by > 0, "each is found without a lock");
+    sflight_cache_close(cache);
+    check(live == 0, "all are dropped");
+}
+
 /* A heavy value takes the room of many light ones, also of other shards. */
 static void test_heavy(void) {
     struct plan plan = {0};
@@ -975,6 +1022,8 @@ int main(void) {
     test_ghosts();
     test_scan();
     test_many_entries();
+    test_comparison();
+    test_full_chunks();
     test_heavy();
     test_seats();
     test_small();
