@@ -428,8 +428,26 @@ where
         K: Borrow<Q>,
         Q: Hash + Eq + ToOwned<Owned = K> + ?Sized,
     {
+        match self.find_at_once(key) {
+            Some(got) => got,
+            None => self.get_missing(key, wants_missing, load),
+        }
+    }
+
+    /// Gets a key that was not found.
+    #[inline(never)]
+    fn get_missing<Q>(
+        self: &Arc<Self>,
+        key: &Q,
+        wants_missing: bool,
+        load: impl FnOnce() -> Result<Fetched<V>, E>,
+    ) -> Got<V, E>
+    where
+        K: Borrow<Q>,
+        Q: Hash + Eq + ToOwned<Owned = K> + ?Sized,
+    {
         let key = self.at(key);
-        if let Some(got) = self.find(&key) {
+        if let Some(got) = self.find_again(&key) {
             return got;
         }
         at("looked");

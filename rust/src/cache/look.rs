@@ -44,20 +44,31 @@ impl<Q: ?Sized> At<'_, Q> {
         self.fingerprint as u32
     }
 
-    /// The record of an entry that this get has met, if both are of one recording.
-    #[inline]
-    fn record<K, V, E>(&self, entry: &Entry<K, V, E>) -> Option<Arc<ValueRecord>> {
-        let noted = self.noted.as_ref()?;
-        entry.record().filter(|record| record.is_of(noted)).cloned()
+    /// What a look needs of it.
+    #[inline(always)]
+    fn sought(&self) -> Sought<'_, Q> {
+        Sought { key: self.key, fingerprint: self.fingerprint, era: self.era }
     }
 
     /// This get returns what another has loaded, if that is recorded.
     #[inline]
     pub(super) fn enters(&self, record: Option<&Arc<ValueRecord>>) {
-        if let (Some(noted), Some(record)) = (&self.noted, record) {
-            record.enters(noted);
-        }
+        enters(self.noted.as_ref(), record);
     }
+}
+
+#[inline]
+fn enters(noted: Option<&Noted>, record: Option<&Arc<ValueRecord>>) {
+    if let (Some(noted), Some(record)) = (noted, record) {
+        record.enters(noted);
+    }
+}
+
+/// What a look without a lock needs of a get.
+struct Sought<'a, Q: ?Sized> {
+    key: &'a Q,
+    fingerprint: u64,
+    era: u64,
 }
 
 /// What an entry is worth to a get.
@@ -181,18 +192,43 @@ where
     }
 
     /// What the cache has of the key: its value, or an error that is kept.
-    #[inline]
     pub(super) fn find<Q>(self: &Arc<Self>, key: &At<'_, Q>) -> Option<Got<V, E>>
     where
         K: Borrow<Q>,
         Q: Hash + Eq + ?Sized,
     {
-        self.find_by(key, |entry, _| Some(Got::of(entry)))
+        let near = self.find_near(key.sought(), key.noted.as_ref(), Self::got_of);
+        near.unwrap_or_else(|| self.find_far(key, Self::got_of))
+    }
+
+    /// The same, for a get that begins now. Where it finds nothing the get begins anew, and looks by
+    /// `find_again`: what else a get notes as it begins is written for those alone that need it.
+    #[inline(always)]
+    pub(super) fn find_at_once<Q>(self: &Arc<Self>, key: &Q) -> Option<Got<V, E>>
+    where
+        K: Borrow<Q>,
+        Q: Hash + Eq + ?Sized,
+    {
+        self.find_now(key, Self::got_of)?
+    }
+
+    /// The same, for a get that `find_at_once` has found nothing for.
+    pub(super) fn find_again<Q>(self: &Arc<Self>, key: &At<'_, Q>) -> Option<Got<V, E>>
+    where
+        K: Borrow<Q>,
+        Q: Hash + Eq + ?Sized,
+    {
+        self.find_slowly(key, Self::got_of)
+    }
+
+    #[inline(always)]
+    fn got_of(entry: &Entry<K, V, E>, _: Option<&Taken<'_>>) -> Option<Got<V, E>> {
+        Some(Got::of(entry))
     }
 
     /// The value of the key. One that finds an error returns nothing.
     #[inline]
-    pub(super) fn find_value<Q>(self: &Arc<Self>, key: &At<'_, Q>) -> Option<Arc<V>>
+    pub(super) fn find_value<Q>(self: &Arc<Self>, key: &Q) -> Option<Arc<V>>
     where
         K: Borrow<Q>,
         Q: Hash + Eq + ?Sized,
@@ -202,7 +238,7 @@ where
 
     /// The value of the key for a read, for which no count is written that others write.
     #[inline]
-    pub(super) fn hold<'a, Q>(self: &'a Arc<Self>, key: &At<'_, Q>) -> Option<Held<'a, V>>
+    pub(super) fn hold<'a, Q>(self: &'a Arc<Self>, key: &Q) -> Option<Held<'a, V>>
     where
         K: Borrow<Q>,
         Q: Hash + Eq + ?Sized,
@@ -218,54 +254,122 @@ where
         })
     }
 
-    /// What `take` takes of the key's entry if that is fresh, without a lock. A get that takes nothing
-    /// of an entry has found it all the same. All results are of two words at most: one in memory
-    /// would be loaded in one piece just after it was stored in parts, which stalls the processor.
+    /// What `take` takes of the key's entry, for a get that begins now, or anew where it finds nothing.
     #[inline(always)]
     fn find_by<'a, Q, R>(
         self: &'a Arc<Self>,
-        key: &At<'_, Q>,
-        take: impl Fn(&Entry<K, V, E>, Option<&Taken<'a>>) -> Option<R>,
+        key: &Q,
+        take: impl Fn(&Entry<K, V, E>, Option<&Taken<'a>>) -> Option<R> + Copy,
     ) -> Option<R>
     where
         K: Borrow<Q>,
         Q: Hash + Eq + ?Sized,
     {
-        let (places, shard) = (&self.group.shared.places, self.shard(key.fingerprint));
-        let Some(mut met) = shard.look(places, key.print(), key.key) else {
-            return self.find_far(key, take);
-        };
+        match self.find_now(key, take) {
+            Some(found) => found,
+            None => self.find_anew(key, take),
+        }
+    }
+
+    /// The same without a lock, unless it is recorded.
+    #[inline(always)]
+    fn find_now<'a, Q, R>(
+        self: &'a Arc<Self>,
+        key: &Q,
+        take: impl Fn(&Entry<K, V, E>, Option<&Taken<'a>>) -> Option<R>,
+    ) -> Option<Option<R>>
+    where
+        K: Borrow<Q>,
+        Q: Hash + Eq + ?Sized,
+    {
+        if self.recordings.is_on() {
+            return None;
+        }
+        let era = self.era();
+        self.find_near(Sought { key, fingerprint: self.fingerprint(key), era }, None, take)
+    }
+
+    #[cold]
+    #[inline(never)]
+    fn find_anew<'a, Q, R>(
+        self: &'a Arc<Self>,
+        key: &Q,
+        take: impl Fn(&Entry<K, V, E>, Option<&Taken<'a>>) -> Option<R> + Copy,
+    ) -> Option<R>
+    where
+        K: Borrow<Q>,
+        Q: Hash + Eq + ?Sized,
+    {
+        self.find_slowly(&self.at(key), take)
+    }
+
+    /// The same for a get that `find_now` has found nothing for. It has not looked yet if it is recorded.
+    fn find_slowly<'a, Q, R>(
+        self: &'a Arc<Self>,
+        key: &At<'_, Q>,
+        take: impl Fn(&Entry<K, V, E>, Option<&Taken<'a>>) -> Option<R> + Copy,
+    ) -> Option<R>
+    where
+        K: Borrow<Q>,
+        Q: Hash + Eq + ?Sized,
+    {
+        let noted = key.noted.as_ref();
+        let found = noted.and_then(|_| self.find_near(key.sought(), noted, take));
+        found.unwrap_or_else(|| self.find_far(key, take))
+    }
+
+    /// What `take` takes of the key's entry if that is fresh, without a lock. `None` where there is no
+    /// such entry, or it was moved. A get that takes nothing of an entry has found it all the same. All
+    /// results are of two words at most: one in memory would be loaded in one piece just after it was
+    /// stored in parts, which stalls the processor.
+    #[inline(always)]
+    fn find_near<'a, Q, R>(
+        self: &'a Arc<Self>,
+        Sought { key, fingerprint, era }: Sought<'_, Q>,
+        noted: Option<&Noted>,
+        take: impl Fn(&Entry<K, V, E>, Option<&Taken<'a>>) -> Option<R>,
+    ) -> Option<Option<R>>
+    where
+        K: Borrow<Q>,
+        Q: Hash + Eq + ?Sized,
+    {
+        let (places, shard) = (&self.group.shared.places, self.shard(fingerprint));
+        let mut met = shard.look(places, fingerprint as u32, key)?;
         let (place, entry) = met.parts();
-        let verdict = self.verdict(entry, key.era, &mut place.handle);
+        let verdict = self.verdict(entry, era, &mut place.handle);
         let Verdict::Fresh { is_due, now } = verdict else {
             drop(met);
-            return self.find_far(key, take);
+            return None;
         };
         place.hits += 1;
         let taken = take(entry, Some(place));
         entry.mark();
-        if now.is_some() || key.noted.is_some() {
-            let after = self.after_hit(key, entry, taken.is_some(), is_due, now);
+        if now.is_some() || noted.is_some() {
+            let after = self.after_hit(noted, entry, taken.is_some(), is_due, now);
             drop(met);
-            self.end_hit(key, after);
+            self.end_hit(noted, fingerprint, after);
         } else {
             drop(met);
         }
         self.options.recorder.iter().for_each(|recorder| recorder.hit());
-        taken
+        Some(taken)
     }
 
     /// What is to be done after a hit, of which something was taken or not.
     #[inline(always)]
-    fn after_hit<Q: ?Sized>(
+    fn after_hit(
         &self,
-        key: &At<'_, Q>,
+        noted: Option<&Noted>,
         entry: &Entry<K, V, E>,
         is_taken: bool,
         is_due: bool,
         now: Option<Moment>,
     ) -> AfterHit<K> {
-        (key.record(entry).filter(|_| is_taken), self.found(entry, is_due, now))
+        // The record of an entry that this get has met, if both are of one recording.
+        let record = noted
+            .filter(|_| is_taken)
+            .and_then(|noted| entry.record().filter(|record| record.is_of(noted)).cloned());
+        (record, self.found(entry, is_due, now))
     }
 
     /// Notes when an entry was found, if it may be idle. Its key, if this get is to begin its refresh.
@@ -280,11 +384,16 @@ where
         key.filter(|_| entry.begins_refresh())
     }
 
-    fn end_hit<Q: ?Sized>(self: &Arc<Self>, key: &At<'_, Q>, (record, due): AfterHit<K>) {
-        key.enters(record.as_ref());
+    fn end_hit(
+        self: &Arc<Self>,
+        noted: Option<&Noted>,
+        fingerprint: u64,
+        (record, due): AfterHit<K>,
+    ) {
+        enters(noted, record.as_ref());
         // First: if the recorder panics, nobody else would begin it.
         if let Some(due) = due {
-            self.refresh(due, key.fingerprint);
+            self.refresh(due, fingerprint);
         }
     }
 
@@ -312,7 +421,7 @@ where
             seat.hits += 1;
             let taken = take(entry, None);
             entry.mark();
-            let after = self.after_hit(key, entry, taken.is_some(), is_due, now);
+            let after = self.after_hit(key.noted.as_ref(), entry, taken.is_some(), is_due, now);
             (verdict, Some((taken, after)))
         });
         let reason = match verdict {
@@ -329,7 +438,7 @@ where
             recorder.miss();
         }
         let (taken, after) = took?;
-        self.end_hit(key, after);
+        self.end_hit(key.noted.as_ref(), key.fingerprint, after);
         self.options.recorder.iter().for_each(|recorder| recorder.hit());
         taken
     }

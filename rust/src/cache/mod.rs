@@ -530,7 +530,7 @@ where
         K: Borrow<Q>,
         Q: Hash + Eq + ?Sized,
     {
-        self.0.find_value(&self.0.at(key))
+        self.0.find_value(key)
     }
 
     /// Calls `read` with the value of the key, if the cache has it, and returns what that returns.
@@ -549,7 +549,7 @@ where
         K: Borrow<Q>,
         Q: Hash + Eq + ?Sized,
     {
-        let made = read(self.0.hold(&self.0.at(key))?.value());
+        let made = read(self.0.hold(key)?.value());
         // It may have left meanwhile.
         self.0.yard.sweep();
         Some(made)

@@ -128,6 +128,90 @@ fn untagged<T>(seen: *mut T) -> *mut T {
     seen.map_addr(|address| address & !((1 << TAG_BITS) - 1))
 }
 
+/// Lets the processor fetch the memory of an entry, which may be freed by now, while a place is taken
+/// for it: no load behind that begins before the place is taken.
+#[inline(always)]
+fn fetch<T>(at: *const T) {
+    #[cfg(target_arch = "x86_64")]
+    {
+        use std::arch::x86_64::{_mm_prefetch, _MM_HINT_T0};
+        const LINE: usize = 64;
+        // SAFETY: it reads nothing, whatever the address is.
+        unsafe {
+            _mm_prefetch::<_MM_HINT_T0>(at.cast());
+            _mm_prefetch::<_MM_HINT_T0>(at.wrapping_byte_add(LINE).cast());
+        }
+    }
+    #[cfg(not(target_arch = "x86_64"))]
+    let _ = at;
+}
+
+/// Whether what was seen in a slot may be an entry of the hash.
+#[inline]
+fn is_tagged<T>(seen: *mut T, print: u32) -> bool {
+    seen.addr() & tag(!0) == tag(print)
+}
+
+/// The entry that was seen in the slot, and that has been protected since, if it is there still and
+/// has the key.
+#[inline(always)]
+fn meet<K, V, E, Q>(
+    slot: &Slot<K, V, E>,
+    seen: *mut Entry<K, V, E>,
+    print: u32,
+    key: &Q,
+) -> Option<NonNull<Entry<K, V, E>>>
+where
+    K: Borrow<Q>,
+    Q: Eq + ?Sized,
+{
+    point();
+    if slot.load(SeqCst) != seen {
+        // It has left, and may be freed.
+        return None;
+    }
+    let entry = NonNull::new(untagged(seen))?;
+    // SAFETY: it was in its slot once it was protected. Whoever takes it out looks for that before it
+    // is freed.
+    let it = unsafe { entry.as_ref() };
+    (it.print == print && it.key.borrow() == key).then_some(entry)
+}
+
+/// Goes on with a look from a slot on, where it has `met` an entry of another key, or one that has
+/// left. Should another entry be at that address by now, that one is missed.
+#[inline(never)]
+fn look_on<'a, K, V, E, Q>(
+    (table, mut at): (&[Slot<K, V, E>], usize),
+    place: Taken<'a>,
+    mut met: *mut Entry<K, V, E>,
+    print: u32,
+    key: &Q,
+) -> Option<Met<'a, K, V, E>>
+where
+    K: Borrow<Q>,
+    Q: Eq + ?Sized,
+{
+    for _ in 0..table.len() {
+        let slot = &table[at];
+        loop {
+            let seen = slot.load(Acquire);
+            if seen.is_null() {
+                return None;
+            }
+            if seen == met || !is_tagged(seen, print) {
+                break;
+            }
+            place.protect(untagged(seen).addr());
+            if let Some(entry) = meet(slot, seen, print, key) {
+                return Some(Met { place, entry });
+            }
+            met = seen;
+        }
+        at = next(at, table.len());
+    }
+    None
+}
+
 fn tagged<K, V, E>(entry: NonNull<Entry<K, V, E>>, print: u32) -> *mut Entry<K, V, E> {
     const { assert!(align_of::<Entry<K, V, E>>() >= 1 << TAG_BITS) };
     entry.as_ptr().map_addr(|address| address | tag(print))
@@ -159,36 +243,27 @@ impl<K, V, E> Shard<K, V, E> {
         point();
         // SAFETY: each table is there as long as the shard.
         let Table(table) = unsafe { &*self.table.load(Acquire) };
-        let (before, after) = table.split_at(home(print, table.len()));
-        let mut place = None::<Taken<'a>>;
-        for slot in after.iter().chain(before) {
-            let mut seen = slot.load(Acquire);
-            while seen.addr() & tag(!0) == tag(print) && !seen.is_null() {
-                let address = untagged(seen).addr();
-                match &place {
-                    Some(place) => place.protect(address),
-                    None => place = Some(places.pin(address)?),
-                }
-                point();
-                let again = slot.load(SeqCst);
-                if again != seen {
-                    // It has left, and may be freed.
-                    seen = again;
-                    continue;
-                }
-                // SAFETY: it was in its slot once it was protected. Whoever takes it out looks for
-                // that before it is freed.
-                let entry = unsafe { &*untagged(seen) };
-                if entry.print == print && entry.key.borrow() == key {
-                    return Some(Met { place: place?, entry: entry.into() });
-                }
-                break;
-            }
+        let first = home(print, table.len());
+        let mut at = first;
+        loop {
+            let slot = table.get(at)?;
+            let seen = slot.load(Acquire);
             if seen.is_null() {
                 return None;
             }
+            if is_tagged(seen, print) {
+                fetch(untagged(seen));
+                let place = places.pin(untagged(seen).addr())?;
+                return match meet(slot, seen, print, key) {
+                    Some(entry) => Some(Met { place, entry }),
+                    None => look_on((table, at), place, seen, print, key),
+                };
+            }
+            at = next(at, table.len());
+            if at == first {
+                return None;
+            }
         }
-        None
     }
 
     pub(super) fn lock<'a>(&'a self, yard: &'a Yard<K, V, E>) -> Guard<'a, K, V, E> {

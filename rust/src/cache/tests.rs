@@ -567,6 +567,13 @@ fn entries_are_found_without_a_lock_and_freed_when_nobody_reads() {
         let value = met(key).and_then(|mut met| met.parts().1.value().cloned());
         assert_eq!(value.map(|value| *value), expected, "{number}");
     }
+    // Some of them stand behind others.
+    for key in (2..3_000).step_by(3).map(spread) {
+        let mut read = met(key).unwrap();
+        let value = Arc::downgrade(read.parts().1.value().unwrap());
+        assert_eq!(shard.remove(key), Some(key.into()));
+        assert!(value.upgrade().is_some(), "it is freed while it is read");
+    }
     let key = spread(1);
     let mut read = met(key).unwrap();
     let (place, entry) = read.parts();
