@@ -138,6 +138,7 @@ fn are_same(left: Names, right: Names) -> bool
 }
 
 // The key's name, as a number.
+#[inline(always)]
 fn name_of(names: Names, key: &[u8]) -> Name
     ensures { IsNameOf names key.now (number result) }
 {
@@ -177,6 +178,7 @@ fn claim(chain: &KeyedChain, me: &mut ChainFront, cell: &mut u64) -> bool
 }
 
 // Whether there may be room now, where an asking was refused for this cause: a cell is claimed, or the next table is there, and known now.
+#[inline(never)]
 fn makes_room(chain: &KeyedChain, me: &mut ChainFront, cell: &mut u64, why: Refusal) -> bool
     requires of { IsOf chain.now me.old }
     requires fits { cell.old < 18446744073709551616 }
@@ -335,7 +337,11 @@ impl Session {
                         return Settling::Alone;
                     }
                     asking.token = Token::Holds(ticket);
-                    Settling::Told(audience)
+                    Settling::Told(Audience {
+                        holders: audience.holders,
+                        joined: audience.joined,
+                        forgotten: audience.forgotten,
+                    })
                 }
             },
             Token::Holds(ticket) => {

@@ -247,7 +247,9 @@ pub extern "C" fn sflight_settle(
     match settled {
         Settling::Alone => ALONE,
         Settling::Told(told) => {
-            *audience = told;
+            audience.holders = told.holders;
+            audience.joined = told.joined;
+            audience.forgotten = told.forgotten;
             TOLD
         }
         Settling::Wrong => WRONG_STATE,

@@ -1,6 +1,5 @@
 -- Names of short keys tell them apart.
-use Rattle.std.proofs.Common.{◌≡◌, ℕ, zero, suc, ◌+◌, ◌*◌, ◌<◌, ◌≤◌, ◌-◌, List, [], ◌∷◌, length, drop, get_or, refl, ◌∙◌, ap, arith}
-use Rattle.std.proofs.Math.Seq.{drop-cons}
+use Rattle.std.proofs.Common.{◌≡◌, ℕ, zero, suc, ◌*◌, ◌<◌, ◌≤◌, List, [], ◌∷◌, length, refl, arith}
 use Rattle.sf_keyed.specs.Names.{AreBytes, packed, ShortKeysApart, ShortNamesBelowLongOnes}
 
 -- so many bytes make a number below this one
@@ -8,17 +7,9 @@ abbrev pub room : ℕ → ℕ
 room zero = 1
 room (suc n) = 256 * room n
 
-pub room_next : (n : ℕ) → room (n + 1) ≡ 256 * room n
-room_next n = let next : n + 1 ≡ suc n = omega arith in ap room next
-
 pub room_some : (n : ℕ) → 0 < room n
 room_some zero = omega arith
 room_some (suc n) = let some_room = room_some n in omega (arith, some_room)
-
-pub room_grows : (n m : ℕ) → n ≤ m → room n ≤ room m
-room_grows zero m le = let some_room = room_some m in omega (arith, some_room)
-room_grows (suc n) zero le = absurd (omega (arith, le))
-room_grows (suc n) (suc m) le = let less = room_grows n m (omega (arith, le)) in omega (arith, less)
 
 pub packed_fits : (n : ℕ) (key : List ℕ) → AreBytes key → length key ≤ n → packed key < room n
 packed_fits n [] bytes le = room_some n
@@ -46,16 +37,3 @@ pub short_names_below_long_ones : ShortNamesBelowLongOnes
 short_names_below_long_ones s k l kb kle =
     let a : packed k < 1329227995784915872903807060280344576 = packed_fits 15 k kb kle in
     omega (arith, a, kle)
-
--- one more byte, from the end on
-pub one_more : (key : List ℕ) (at : ℕ) → at < length key → packed (drop (length key - (at + 1)) key) ≡ packed (drop (length key - at) key) * 256 + get_or key (length key - 1 - at) 0
-one_more key at lt =
-    let i : ℕ = length key - 1 - at in
-    let here : length key - (at + 1) ≡ i = omega (arith, lt) in
-    let next : suc i ≡ length key - at = omega (arith, lt) in
-    let within : i < length key = omega (arith, lt) in
-    ap (λ n. packed (drop n key)) here ∙ (ap packed (drop-cons key i 0 within) ∙ (ap (λ n. get_or key i 0 + 256 * packed (drop n key)) next ∙ omega arith))
-
-pub none_left : (key : List ℕ) → drop (length key) key ≡ []
-none_left [] = refl
-none_left (b ∷ key) = none_left key

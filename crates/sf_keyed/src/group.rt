@@ -283,8 +283,17 @@ impl KeyedGroup {
         requires own { me.old.group ≡ self.now }
         ensures { IsAsked me.old me.new (number name) tries result }
     {
+        self.ask_at(me, self.slot(name), name, tries)
+    }
+
+    /// `ask` by a caller that knows the name's hash slot.
+    pub fn ask_at(&self, me: &mut Front, slot: u64, name: Name, tries: u32) -> Asked
+        requires own { me.old.group ≡ self.now }
+        requires slot { (slot ≡ slot_of self.now.sizes (number name)) × (slot < self.now.sizes.tops) }
+        ensures { IsAsked me.old me.new (number name) tries result }
+    {
         let words = &self.table.shared;
-        match often::ask_often(words, &mut me.seat, self.sizes, me.spare, name, tries) {
+        match often::ask_often(words, &mut me.seat, self.sizes, slot, me.spare, name, tries) {
             sf_keyed_walks::walk::Asked::Led => {
                 let call = me.spare;
                 me.spare = 0;
@@ -341,10 +350,20 @@ impl KeyedGroup {
         requires own { me.old.group ≡ self.now }
         ensures { IsForgotten me.old me.new (number name) tries result }
     {
+        self.forget_at(me, self.slot(name), name, tries)
+    }
+
+    /// `forget` by a caller that knows the name's hash slot.
+    pub fn forget_at(&self, me: &mut Front, slot: u64, name: Name, tries: u32) -> Forgotten
+        requires own { me.old.group ≡ self.now }
+        requires slot { (slot ≡ slot_of self.now.sizes (number name)) × (slot < self.now.sizes.tops) }
+        ensures { IsForgotten me.old me.new (number name) tries result }
+    {
         match often::forget_often(
             &self.table.shared,
             &mut me.seat,
             self.sizes,
+            slot,
             name,
             None,
             tries,
@@ -366,6 +385,7 @@ impl KeyedGroup {
             &self.table.shared,
             &mut me.seat,
             self.sizes,
+            the_slot_of(self.sizes, name),
             name,
             Some(call),
             tries,

@@ -36,6 +36,7 @@ impl Names {
 
     /// The key's name. A key of at most 15 bytes is its own name, so that different ones have different names. A longer key has a digest
     /// of 127 bits: SipHash-1-3 of the key, and of the key with one more byte behind it.
+    #[inline(always)]
     pub fn of(&self, key: &[u8]) -> Name
         ensures short { length key.now ≤ 15 → number result ≡ the_short_name key.now }
         ensures long { 15 < length key.now → number result ≡ the_long_name self.now key.now }
@@ -47,6 +48,7 @@ impl Names {
         }
     }
 
+    #[inline(never)]
     fn long_name(&self, key: &[u8]) -> Name
         ensures { number result ≡ the_long_name self.now key.now }
     {
@@ -76,19 +78,52 @@ fn eight(key: &[u8]) -> u64
         + key[7] as u64 * 0x100_0000_0000_0000
 }
 
+// The number of the four bytes from this one on, which one load reads.
+fn four(key: &[u8], from: usize) -> u64
+    requires { from + 4 ≤ length key.now }
+    ensures { (packed (drop from key.now) ≡ result + 4294967296 * packed (drop (from + 4) key.now)) × (result < 4294967296) }
+{
+    key[from] as u64
+        + key[from + 1] as u64 * 0x100
+        + key[from + 2] as u64 * 0x1_0000
+        + key[from + 3] as u64 * 0x100_0000
+}
+
+// The number of the two bytes from this one on, which one load reads.
+fn two(key: &[u8], from: usize) -> u64
+    requires { from + 2 ≤ length key.now }
+    ensures { (packed (drop from key.now) ≡ result + 65536 * packed (drop (from + 2) key.now)) × (result < 65536) }
+{
+    key[from] as u64 + key[from + 1] as u64 * 0x100
+}
+
+// The number of the bytes from this one on, of which there are at most three.
+fn last(key: &[u8], from: usize) -> u64
+    requires { (from ≤ length key.now) × (length key.now ≤ from + 3) }
+    ensures { (result ≡ packed (drop from key.now)) × (result < 16777216) }
+{
+    match key.len() - from {
+        0 => 0,
+        1 => key[from] as u64,
+        2 => two(key, from),
+        _ => two(key, from) + key[from + 2] as u64 * 0x1_0000,
+    }
+}
+
 // The number of the bytes from this one on, of which there are at most seven.
 fn few(key: &[u8], from: usize) -> u64
     requires { (from ≤ length key.now) × (length key.now ≤ from + 7) }
     ensures { (result ≡ packed (drop from key.now)) × (result < 72057594037927936) }
 {
-    let mut bytes = 0u64;
-    for at in 0..key.len() - from {
-        bytes = bytes * 256 + key[key.len() - 1 - at] as u64;
+    if key.len() - from < 4 {
+        last(key, from)
+    } else {
+        four(key, from) + last(key, from + 4) * 0x1_0000_0000
     }
-    bytes
 }
 
 // A key's bytes, and above them its length.
+#[inline(always)]
 fn short_name(key: &[u8]) -> Name
     requires { length key.now ≤ 15 }
     ensures { number result ≡ the_short_name key.now }

@@ -210,6 +210,7 @@ impl KeyedChain {
     }
 
     /// Whether the table behind the last one that the caller knows is there. Then the caller knows it, and leads its calls there.
+    #[inline(never)]
     pub fn learn(&self, me: &mut ChainFront) -> bool
         requires of { IsOf self.now me.old }
         ensures of { IsOf self.now me.new }
@@ -302,6 +303,18 @@ impl KeyedChain {
         ensures of { IsOf self.now me.new }
         ensures heard { AllHeard me.old me.new }
     {
+        if me.parts.len() <= table {
+            self.reach_on(me, table);
+        }
+    }
+
+    // Gets to know tables that the caller has not looked at yet.
+    #[inline(never)]
+    fn reach_on(&self, me: &mut ChainFront, table: usize)
+        requires of { IsOf self.now me.old }
+        ensures of { IsOf self.now me.new }
+        ensures heard { AllHeard me.old me.new }
+    {
         for _ in 0..LEVELS {
             if me.parts.len() > table || !self.learn(me) {
                 return;
@@ -389,8 +402,21 @@ impl KeyedChain {
         Ok(self.know(me, note))
     }
 
-    // Sweeps some slots of the first table that is not the last one and not swept whole.
+    // Sweeps where there are older tables. Most groups have one table.
     fn sweep(&self, me: &mut ChainFront)
+        requires of { IsOf self.now me.old }
+        ensures of { IsOf self.now me.new }
+        ensures heard { AllHeard me.old me.new }
+        ensures known { length me.new ≡ length me.old }
+    {
+        if me.parts.len() > 1 {
+            self.sweep_older(me);
+        }
+    }
+
+    // Sweeps some slots of the first table that is not the last one and not swept whole.
+    #[inline(never)]
+    fn sweep_older(&self, me: &mut ChainFront)
         requires of { IsOf self.now me.old }
         ensures of { IsOf self.now me.new }
         ensures heard { AllHeard me.old me.new }
@@ -708,7 +734,12 @@ impl KeyedChain {
                     note,
                     ticket,
                 },
-                audience,
+                // Field by field, so that no call copies the bytes between them.
+                Audience {
+                    holders: audience.holders,
+                    joined: audience.joined,
+                    forgotten: audience.forgotten,
+                },
             ),
         }
     }

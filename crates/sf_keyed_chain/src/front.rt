@@ -181,7 +181,11 @@ impl Part {
             Some(level) => {
                 let slot = level.group.slot(name);
                 let age = level.draw(&mut self.known, slot);
-                (level.group.ask(&mut self.front, name, tries), slot, age)
+                (
+                    level.group.ask_at(&mut self.front, slot, name, tries),
+                    slot,
+                    age,
+                )
             }
             None => unreachable!(),
         }
@@ -196,9 +200,10 @@ impl Part {
     {
         match link.get_as(&mut self.note) {
             Some(level) => {
-                let forgotten = level.group.forget(&mut self.front, name, tries);
+                let slot = level.group.slot(name);
+                let forgotten = level.group.forget_at(&mut self.front, slot, name, tries);
                 if forgotten != Forgotten::Busy {
-                    level.end(&mut self.known, level.group.slot(name));
+                    level.end(&mut self.known, slot);
                 }
                 forgotten
             }

@@ -1,6 +1,6 @@
 //! Askings and Forgets that are tried again where another came first.
 ghost use Rattle.std.specs.Prelude.{◌≡◌, ◌≢◌, ◌+◌, ◌/◌, ◌%◌, ◌<◌, ◌≤◌, ◌^◌, ℕ, Some, None};
-ghost use Rattle.sf_keyed_words.specs.Rule.{number};
+ghost use Rattle.sf_keyed_words.specs.Rule.{number, slot_of as the_slot_of};
 ghost use Rattle.sf_keyed_walks.specs.Walk.{IsLaid, Stays, HasLed, HasJoined, HasClosed, HasNone, HasOther, IsGone, KeepsCalls};
 ghost use Rattle.sf_keyed_walks.specs.declared.walk.Asked.TheVariants as asked;
 ghost use Rattle.sf_keyed_walks.specs.declared.walk.Closing.TheVariants as closing;
@@ -10,12 +10,13 @@ use crate::walk::{Asked, Closing, Passed, ask_once, forget_once, pass_once};
 use sf_keyed_words::steps::{KeyedSeat, Words};
 use sf_keyed_words::{KeyedSizes, Name};
 
-/// Forgets the name: closes its open call, or finds that it has none. If `only` is a call, it closes that call alone. Busy after so many
+/// Forgets the name, whose slot this is: closes its open call, or finds that it has none. If `only` is a call, it closes that call alone. Busy after so many
 /// tries, in each of which an exchange was lost to others.
 pub fn forget_often(
     words: &Words,
     seat: &mut KeyedSeat,
     sizes: KeyedSizes,
+    slot: u64,
     name: Name,
     only: Option<u64>,
     tries: u32,
@@ -23,6 +24,7 @@ pub fn forget_often(
     requires own { seat.old.table_id ≡ words.now.table_id }
     requires laid { IsLaid words.now.key words.now.table_id.words sizes }
     requires sizes { seat.old.me.0.sizes ≡ sizes }
+    requires slot { (slot < sizes.tops) × (the_slot_of sizes (number name) ≡ slot) }
     ensures own { seat.new.table_id ≡ seat.old.table_id }
     ensures closed { (call : ℕ) → result ≡ closing.Closed call → HasClosed seat.old.me.0 seat.new.me.0 call (number name) × ((wanted : ℕ) → only ≡ Some wanted → call ≡ wanted) }
     ensures nothing { result ≡ closing.Nothing → HasNone seat.old.me.0 seat.new.me.0 (number name) × (seat.new.me.0.found / 2 % 2 ≡ 0) }
@@ -32,7 +34,7 @@ pub fn forget_often(
     ensures calls { KeepsCalls seat.old.me.0 seat.new.me.0 }
 {
     for at in 0..tries {
-        match forget_once(words, seat, sizes, name, only) {
+        match forget_once(words, seat, sizes, slot, name, only) {
             Closing::Busy => {}
             Closing::Other(call) => return Closing::Other(call),
             Closing::Nothing => return Closing::Nothing,
@@ -43,12 +45,13 @@ pub fn forget_often(
     Closing::Busy
 }
 
-/// Asks for the name: joins its open call, or leads the seat's own. Busy after so many tries, in each of which an exchange was lost to
+/// Asks for the name, whose slot this is: joins its open call, or leads the seat's own. Busy after so many tries, in each of which an exchange was lost to
 /// others.
 pub fn ask_often(
     words: &Words,
     seat: &mut KeyedSeat,
     sizes: KeyedSizes,
+    slot: u64,
     own: u64,
     name: Name,
     tries: u32,
@@ -56,6 +59,7 @@ pub fn ask_often(
     requires own { seat.old.table_id ≡ words.now.table_id }
     requires laid { IsLaid words.now.key words.now.table_id.words sizes }
     requires sizes { seat.old.me.0.sizes ≡ sizes }
+    requires slot { (slot < sizes.tops) × (the_slot_of sizes (number name) ≡ slot) }
     requires ready { (seat.old.me.0.own ≡ own) × (own < 2 ^ 61) × (own ≢ 0 → own % 1048576 < sizes.cells) }
     requires idle { (seat.old.me.0.leads ≡ 0) × (seat.old.me.0.ticket ≡ 0) }
     ensures own { seat.new.table_id ≡ seat.old.table_id }
@@ -70,7 +74,7 @@ pub fn ask_often(
     ensures crowded { result ≡ asked.Crowded → 1048575 ≤ seat.new.me.0.state % 1048576 }
 {
     for at in 0..tries {
-        match ask_once(words, seat, sizes, own, name) {
+        match ask_once(words, seat, sizes, slot, own, name) {
             Asked::Busy => {}
             Asked::Led => return Asked::Led,
             Asked::Joined(call) => return Asked::Joined(call),

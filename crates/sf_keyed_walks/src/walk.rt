@@ -302,18 +302,22 @@ fn walk_slot(
     }
 }
 
-/// Asks for the name, once: joins its open call, or leads the seat's own call where the walk meets none, and nobody leads at
-/// the slot meanwhile. A seat that has no cell, whose own call is 0, may join and not lead.
+/// Asks for the name, whose slot this is, once: joins its open call, or leads the seat's own call where the walk meets none, and nobody leads
+/// at the slot meanwhile. A seat that has no cell, whose own call is 0, may join and not lead. Most askings find the name's call, or a
+/// closed one, at the top of a slot that has no mark.
+#[inline(always)]
 pub fn ask_once(
     words: &Words,
     seat: &mut KeyedSeat,
     sizes: KeyedSizes,
+    slot: u64,
     own: u64,
     name: Name,
 ) -> Asked
     requires own { seat.old.table_id ≡ words.now.table_id }
     requires laid { IsLaid words.now.key words.now.table_id.words sizes }
     requires sizes { seat.old.me.0.sizes ≡ sizes }
+    requires slot { (slot < sizes.tops) × (the_slot_of sizes (number name) ≡ slot) }
     requires ready { (seat.old.me.0.own ≡ own) × (own < 2 ^ 61) × (own ≢ 0 → own % 1048576 < sizes.cells) }
     requires idle { (seat.old.me.0.leads ≡ 0) × (seat.old.me.0.ticket ≡ 0) }
     ensures own { seat.new.table_id ≡ seat.old.table_id }
@@ -327,7 +331,74 @@ pub fn ask_once(
     ensures sealed { result ≡ asked.Sealed → seat.new.me.0.found / 2 % 2 ≡ 1 }
     ensures crowded { result ≡ asked.Crowded → 1048575 ≤ seat.new.me.0.state % 1048576 }
 {
-    let slot = slot_of(sizes, name);
+    let found = look_top(words, seat, slot);
+    match examine(words, seat, sizes, found / 4, name) {
+        Look::Named(state) => return join_found(words, seat, sizes, found / 4, name, state),
+        Look::Closed(_) => {
+            if found % 2 == 0 {
+                let on = Walked {
+                    aside: false,
+                    marks: false,
+                    taken: false,
+                };
+                return lead_after(words, seat, sizes, slot, found, own, name, on);
+            }
+        }
+        Look::Other(_, _) => {}
+    }
+    // What goes to a function that is called, and comes from it, lies in memory: the usual ways have their own, in registers.
+    match ask_beside(words, seat, copied(sizes), slot, own, name) {
+        Asked::Led => Asked::Led,
+        Asked::Joined(call) => Asked::Joined(call),
+        Asked::Busy => Asked::Busy,
+        Asked::Full => Asked::Full,
+        Asked::Sealed => Asked::Sealed,
+        Asked::NoCell => Asked::NoCell,
+        Asked::Crowded => Asked::Crowded,
+    }
+}
+
+// The sizes, for a function that is called.
+#[inline(always)]
+fn copied(sizes: KeyedSizes) -> KeyedSizes
+    ensures { result ≡ sizes }
+{
+    KeyedSizes {
+        tops: sizes.tops,
+        sides: sizes.sides,
+        cells: sizes.cells,
+        low_seed: sizes.low_seed,
+        high_seed: sizes.high_seed,
+    }
+}
+
+// Asks by a walk over the slot's side words too.
+#[inline(never)]
+fn ask_beside(
+    words: &Words,
+    seat: &mut KeyedSeat,
+    sizes: KeyedSizes,
+    slot: u64,
+    own: u64,
+    name: Name,
+) -> Asked
+    requires own { seat.old.table_id ≡ words.now.table_id }
+    requires laid { IsLaid words.now.key words.now.table_id.words sizes }
+    requires sizes { seat.old.me.0.sizes ≡ sizes }
+    requires slot { (slot < sizes.tops) × (the_slot_of sizes (number name) ≡ slot) }
+    requires ready { (seat.old.me.0.own ≡ own) × (own < 2 ^ 61) × (own ≢ 0 → own % 1048576 < sizes.cells) }
+    requires idle { (seat.old.me.0.leads ≡ 0) × (seat.old.me.0.ticket ≡ 0) }
+    ensures own { seat.new.table_id ≡ seat.old.table_id }
+    ensures led { result ≡ asked.Led → HasLed seat.old.me.0 seat.new.me.0 own (number name) }
+    ensures joined { (found : ℕ) → result ≡ asked.Joined found → HasJoined seat.old.me.0 seat.new.me.0 found (number name) }
+    ensures cell { (found : ℕ) → result ≡ asked.Joined found → (found ≢ 0) × (found < 2 ^ 61) × (found % 1048576 < sizes.cells) }
+    ensures kept { result ≢ asked.Led → ((found : ℕ) → result ≢ asked.Joined found) → Stays seat.old.me.0 seat.new.me.0 }
+    ensures no_cell { (result ≡ asked.NoCell → own ≡ 0) × (result ≡ asked.Led → own ≢ 0) }
+    ensures busy { result ≡ asked.Busy → seat.old.me.0.lost < seat.new.me.0.lost }
+    ensures full { result ≡ asked.Full → seat.new.me.0.opened ≡ 17 }
+    ensures sealed { result ≡ asked.Sealed → seat.new.me.0.found / 2 % 2 ≡ 1 }
+    ensures crowded { result ≡ asked.Crowded → 1048575 ≤ seat.new.me.0.state % 1048576 }
+{
     match walk_slot(words, seat, sizes, slot, name, true) {
         Way::Met(call, state) => join_found(words, seat, sizes, call, name, state),
         Way::Through(found, on) => {
@@ -401,17 +472,19 @@ fn lead_after(
     }
 }
 
-/// Forgets the name, once: closes its open call, or finds that it has none. If `only` is a call, it closes that call alone.
+/// Forgets the name, whose slot this is, once: closes its open call, or finds that it has none. If `only` is a call, it closes that call alone.
 pub fn forget_once(
     words: &Words,
     seat: &mut KeyedSeat,
     sizes: KeyedSizes,
+    slot: u64,
     name: Name,
     only: Option<u64>,
 ) -> Closing
     requires own { seat.old.table_id ≡ words.now.table_id }
     requires laid { IsLaid words.now.key words.now.table_id.words sizes }
     requires sizes { seat.old.me.0.sizes ≡ sizes }
+    requires slot { (slot < sizes.tops) × (the_slot_of sizes (number name) ≡ slot) }
     ensures own { seat.new.table_id ≡ seat.old.table_id }
     ensures closed { (call : ℕ) → result ≡ closing.Closed call → HasClosed seat.old.me.0 seat.new.me.0 call (number name) × ((wanted : ℕ) → only ≡ Some wanted → call ≡ wanted) }
     ensures nothing { result ≡ closing.Nothing → HasNone seat.old.me.0 seat.new.me.0 (number name) × (seat.new.me.0.found / 2 % 2 ≡ 0) }
@@ -420,7 +493,6 @@ pub fn forget_once(
     ensures busy { result ≡ closing.Busy → Stays seat.old.me.0 seat.new.me.0 × (seat.old.me.0.lost < seat.new.me.0.lost) }
     ensures calls { KeepsCalls seat.old.me.0 seat.new.me.0 }
 {
-    let slot = slot_of(sizes, name);
     match walk_slot(words, seat, sizes, slot, name, false) {
         Way::Met(call, state) => close_found(words, seat, sizes, call, name, state, only),
         Way::Through(found, on) => none_after(words, seat, sizes, slot, found, name, on),

@@ -1,22 +1,24 @@
-use Rattle.std.proofs.Common.{◌≡◌, Bool, true, false, not, refl}
-use Rattle.std.proofs.lemmas.Bool.{true≢false}
+use Rattle.std.proofs.Common.{rules, ◌%◌, ◌<◌, ◌∙◌, subst}
+use Rattle.sf_keyed_words.specs.declared.rule.KeyedSizes.{KeyedSizes}
 use Rattle.sf_keyed_words.specs.Rule.{number}
+use Rattle.sf_keyed_walks.specs.Walk.{Stays}
 use Rattle.sf_keyed_walks.proofs.Origins.{joined_from}
 use Rattle.sf_keyed_walks.proofs.walk.ask_once.Goals as goal
+use Rattle.sf_keyed_walks.proofs.walk.ask_once.Goals.{in-Closed+else-found-eq0, in-Other}
 
-pub join_found-requires-clause-met : goal.join_found-requires-clause-met
-join_found-requires-clause-met c = c.walk_slot.ensures.met c.in-Met.call c.in-Met.state c.in-Met.is
+pub returns-in-Named-clause-joined : goal.returns-in-Named-clause-joined
+returns-in-Named-clause-joined c call is =
+    let stays : Stays c.args.seat.now.me.0 c.examine.new.seat.me.0 = search rules in
+    joined_from c.args.seat.now.me.0 c.examine.new.seat.me.0 c.join_found.new.seat.me.0 call (number c.args.name) stays (c.join_found.ensures.joined call is)
 
-pub lead_after-requires-clause-through : goal.lead_after-requires-clause-through
-lead_after-requires-clause-through c = c.walk_slot.ensures.through c.in-Through.found c.in-Through.on c.in-Through.is
+pub returns-in-Joined-clause-joined : goal.returns-in-Joined-clause-joined
+returns-in-Joined-clause-joined c call is =
+    let stays : Stays c.args.seat.now.me.0 c.examine.new.seat.me.0 = elim c.match-examine.branch [
+      | in-Closed+else-found-eq0 w ↦ search rules
+      | in-Other w ↦ search rules
+    ] in
+    joined_from c.args.seat.now.me.0 c.examine.new.seat.me.0 c.ask_beside.new.seat.me.0 call (number c.args.name) stays (c.ask_beside.ensures.joined call (c.in-Joined.is ∙ is))
 
-pub returns-in-Met-clause-joined : goal.returns-in-Met-clause-joined
-returns-in-Met-clause-joined c call is =
-    joined_from c.args.seat.now.me.0 c.walk_slot.new.seat.me.0 c.join_found.new.seat.me.0 call (number c.args.name) c.walk_slot.ensures.stays (c.join_found.ensures.joined call is)
-
-is_true : (b : Bool) → not b ≡ false → b ≡ true
-is_true true isnt = refl
-is_true false isnt = absurd (true≢false isnt)
-
-pub returns-else-on-clause-full : goal.returns-else-on-clause-full
-returns-else-on-clause-full c is = (c.walk_slot.ensures.through c.in-Through.found c.in-Through.on c.in-Through.is).opened (is_true c.in-Through.on.aside c.if-not-on.false) c.if-on.false
+pub returns-in-Joined-clause-cell : goal.returns-in-Joined-clause-cell
+returns-in-Joined-clause-cell c call is =
+    let cell = c.ask_beside.ensures.cell call (c.in-Joined.is ∙ is) in (cell.0, cell.1, subst (λ (z : KeyedSizes). call % 1048576 < z.cells) c.copied.ensures cell.2)

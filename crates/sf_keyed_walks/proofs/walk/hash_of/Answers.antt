@@ -1,4 +1,4 @@
-use Rattle.std.proofs.Common.{rules, refl}
+use Rattle.std.proofs.Common.{refl}
 use Rattle.sf_keyed_words.specs.Rule.{hash_of}
 use Rattle.sf_keyed_walks.proofs.walk.hash_of.Goals as goal
 

@@ -9,7 +9,7 @@ use Rattle.sf_keyed_words.specs.Rule.{number}
 use Rattle.sf_keyed_words.specs.Plays.{GoneHasNoCall}
 use Rattle.sf_keyed.specs.Known.{GroupId, FrontState}
 use Rattle.sf_keyed.proofs.Joint.{gone_on, still_gone}
-use Rattle.sf_keyed.proofs.group.KeyedGroup.ask.Goals as goal
+use Rattle.sf_keyed.proofs.group.KeyedGroup.ask_at.Goals as goal
 
 pub invariant_of-result-in-Joined : goal.invariant_of-result-in-Joined
 invariant_of-result-in-Joined c =

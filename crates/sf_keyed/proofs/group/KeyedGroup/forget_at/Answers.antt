@@ -5,8 +5,8 @@ use Rattle.sf_keyed_words.specs.Rule.{number}
 use Rattle.sf_keyed.specs.Known.{FrontState, GroupId}
 use Rattle.sf_keyed.specs.Calls.{IsForgotten}
 use Rattle.sf_keyed.proofs.Joint.{gone_on, still_gone}
-use Rattle.sf_keyed.proofs.group.KeyedGroup.forget.Goals as goal
-use Rattle.sf_keyed.proofs.group.KeyedGroup.forget.Goals.{in-Closed, in-Nothing, in-Gone, in-Other, in-Busy}
+use Rattle.sf_keyed.proofs.group.KeyedGroup.forget_at.Goals as goal
+use Rattle.sf_keyed.proofs.group.KeyedGroup.forget_at.Goals.{in-Closed, in-Nothing, in-Gone, in-Other, in-Busy}
 
 pub returns : goal.returns
 returns c =

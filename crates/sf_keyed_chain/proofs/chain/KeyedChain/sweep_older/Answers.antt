@@ -1,6 +1,6 @@
 use Rattle.std.proofs.Common.{rules, ◌<◌, length}
 use Rattle.sf_keyed_chain.proofs.Sights.{heard_in}
-use Rattle.sf_keyed_chain.proofs.chain.KeyedChain.sweep.Goals as goal
+use Rattle.sf_keyed_chain.proofs.chain.KeyedChain.sweep_older.Goals as goal
 
 pub returns-then-at-len-clause-heard : goal.returns-then-at-len-clause-heard
 returns-then-at-len-clause-heard c =
