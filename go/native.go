@@ -282,7 +282,8 @@ func (t *nativeTable) ask(a *asking) {
 	a.isCrowded = false
 	for try := 1; ; try++ {
 		h := t.pin()
-		if h == nil {
+		isPinned := h != nil
+		if !isPinned {
 			h = t.takeSlowly()
 		}
 		seen, code, isDue := t.size.Load(), uint32(codeFull), false
@@ -302,7 +303,11 @@ func (t *nativeTable) ask(a *asking) {
 		default:
 			h.idle(&a.own)
 		}
-		h.put()
+		if isPinned {
+			procUnpin()
+		} else {
+			h.put()
+		}
 		if isDue && a.own.live {
 			// If only leaders looked, none would where each call that is due is a joiner's.
 			t.look()
@@ -419,14 +424,26 @@ func (t *nativeTable) settle(a *asking, keeps bool) (isTold bool) {
 		return keeps
 	}
 	h := t.pin()
-	if h == nil {
+	isPinned := h != nil
+	if !isPinned {
 		h = t.takeSlowly()
 	}
 	code := cSettle(h, a)
 	increment(&h.ends)
 	if code == codeTold {
 		a.got.Joiners, a.got.Shared, a.isClosed = int(h.told.holders)-1, h.told.joined, h.told.forgotten
+	} else if n := h.frees; n < len(h.free) {
+		// idle, in line.
+		h.free[n], h.frees, a.own = a.own, n+1, cCall{}
+	} else {
+		h.idle(&a.own)
+	}
+	if isPinned {
+		procUnpin()
+	} else {
 		h.put()
+	}
+	if code == codeTold {
 		if keeps || a.got.Shared {
 			t.share(a)
 			return true
@@ -435,8 +452,6 @@ func (t *nativeTable) settle(a *asking, keeps bool) (isTold bool) {
 		t.leave(a, true)
 		return false
 	}
-	h.idle(&a.own)
-	h.put()
 	if a.call != nil {
 		t.drop(a)
 	}
@@ -468,14 +483,19 @@ func (t *nativeTable) forget(key string) (id callID, closed bool) {
 	}
 	for {
 		h := t.pin()
-		if h == nil {
+		isPinned := h != nil
+		if !isPinned {
 			h = t.takeSlowly()
 		}
 		code := cForget(h, key)
 		if id = h.id; code != codeBusy {
 			increment(&h.forgets)
 		}
-		h.put()
+		if isPinned {
+			procUnpin()
+		} else {
+			h.put()
+		}
 		if code != codeBusy {
 			return id, code == codeDone
 		}
