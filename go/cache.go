@@ -474,7 +474,7 @@ func (f *fill[K, V]) put(
 func (f *fill[K, V]) settle(
 	a *asking, n *node[K, V], last *atomic.Uint64, number uint64,
 ) (kept bool, out []*node[K, V]) {
-	a.got = Result{Val: n, Err: errAgain}
+	a.got = ending{Val: n, Err: errAgain}
 	if last.Load() == number {
 		if rec := a.record(); rec != nil {
 			rec.begins()

@@ -197,7 +197,7 @@ func (b *batch[K, V]) leaves() bool {
 // run loads the keys that are led, and settles each. What the batch loader returns for a key is kept
 // before that key's call is settled.
 func (b *batch[K, V]) run(ctx context.Context) {
-	var r Result
+	var r ending
 	defer func() {
 		if r.Err == nil {
 			r.Err = errGoexit

@@ -46,9 +46,9 @@ func (l loading[K, V]) get(ctx context.Context, noted uint64) (n *node[K, V], er
 	g.loading = l
 	for name := l.c.kind.name(l.key); ; {
 		g.asking = asking{key: name, from: l.from}
-		var r *Result
-		r, err = l.f.p.doContext(ctx, &g.asking, g.runs)
-		n, _ = r.Val.(*node[K, V])
+		var a *asking
+		a, err = l.f.p.doContext(ctx, &g.asking, g.runs)
+		n, _ = a.got.Val.(*node[K, V])
 		// A leader has its own key's, which need not equal itself: see isFindable.
 		isFor := n == nil || g.asking.leads || l.isFor(n, noted)
 		g.asking.enters(isFor)

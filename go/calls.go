@@ -44,10 +44,10 @@ const (
 //
 // A leader that nobody joined has told nobody of the call, and a table uses that again. Others are left to the collector.
 type call struct {
-	// In plain Go, protected by the lock of the shard.
+	asked // as got
+	// In plain Go, protected by the lock of the shard, as is the id then.
 	key    string
 	slot   uint64
-	id     callID
 	shared bool // whether somebody has joined it
 	closed bool // whether a Forget has closed it
 
@@ -62,7 +62,7 @@ type call struct {
 	cancel  context.CancelFunc // tells the load to end; of such a leader, also when it has left
 	ended   bool               // whether that was called, since nobody waited
 	told    []func()           // to be called when got is there
-	got     Result
+	got     ending
 }
 
 // Which call of the group: see sflight_id in sflight.h. None has the generation 0.
@@ -73,6 +73,9 @@ type callID struct {
 
 // What a Stamp says: see sflight_stamp in sflight.h.
 type words struct{ table, slot, age uint64 }
+
+// The words of the zero Stamp, which is never current.
+var noStamp = Stamp{}.words()
 
 // A stamp of all zeros is none, so a table is packed as one more.
 func (w *words) packed() Stamp { return Stamp{(w.table+1)<<56 | w.slot, w.age} }
@@ -85,16 +88,25 @@ type asked struct {
 	stamp words // of a call that is led
 }
 
+// An ending is what a call has come to. A Result has its names too: those of asked.
+type ending struct {
+	Val     any
+	Err     error
+	Joiners int  // how many have joined, and waited
+	Shared  bool // whether somebody has joined it, also one that has left
+}
+
 // An asking is what one caller knows of the call that it leads or holds.
 type asking struct {
 	key string
 	asked
 	own   flight // what the table knows of it
 	call  *call  // in the library's table none of a leader, unless it has to share something
-	got   Result // of a leader, once it has called its function; of others, once the call has ended
+	got   ending // of a leader, once it has called its function; of others, once the call has ended
 	leads bool
 	// Whether it does neither, since the key's call has as many holders as can be counted.
 	isCrowded bool
+	isClosed  bool            // of a leader that has settled: whether a Forget had closed the call, so that the result has no stamp
 	stop      <-chan struct{} // closed when it is not to wait any more until one of them leaves
 	by        *recorder       // none where it is not recorded
 	from      int64           // when it began, where it is recorded
@@ -102,14 +114,6 @@ type asking struct {
 	held      *callRecord     // of a cache's joiner: that of the value which it got
 	over      chan struct{}   // of a leader that waits for a run in another goroutine; closed when that has ended
 	after     func()          // to be called when all have the result
-}
-
-// An audience is what a leader learns as it settles: the callers that are to be told.
-type audience struct {
-	isTold    bool // whether somebody has joined it, or the call was to be kept: the leader leaves it then
-	isShared  bool // whether somebody has joined it, also one that has left
-	joiners   int  // how many have joined, and wait
-	forgotten bool // whether a Forget has closed it: the result has no stamp then
 }
 
 // How joining has ended.
@@ -173,27 +177,25 @@ func (a *asking) record() *callRecord {
 
 // ends settles the call that was led, tells those who have joined, and completes the result.
 func (p *core) ends(a *asking) {
-	r, rec := &a.got, a.record()
+	rec := a.record()
 	if rec != nil && rec.value != nil {
-		rec.loaded(r.Err)
+		rec.loaded(a.got.Err)
 	} else if rec != nil {
-		rec.settles, rec.err = now(), r.Err
+		rec.settles, rec.err = now(), a.got.Err
 	}
 	point(beforeSettle)
-	to := p.table.settle(a, rec != nil || a.over != nil)
-	r.Joiners, r.Shared, r.Stamp = to.joiners, to.isShared, a.stamp.packed()
-	if to.forgotten || p.isEnded.Load() {
-		r.Stamp = Stamp{}
+	isTold := p.table.settle(a, rec != nil || a.over != nil)
+	if a.isClosed || p.isEnded.Load() {
+		a.stamp = noStamp
 	}
-	r.Call = Call{id: a.id, stamp: r.Stamp}
-	if !to.isTold {
+	if !isTold {
 		return
 	}
 	if rec != nil && rec.value != nil {
-		rec.wasForgotten(to.forgotten)
+		rec.wasForgotten(a.isClosed)
 	} else if rec != nil {
 		rec.settled = now()
-		if to.forgotten {
+		if a.isClosed {
 			rec.by.awaits(rec, a.id)
 		}
 	}
@@ -205,7 +207,7 @@ func (p *core) ends(a *asking) {
 func (p *core) tell(a *asking) {
 	c := a.call
 	acquire(&c.mu)
-	c.got, c.ready = a.got, true
+	c.asked, c.got, c.ready = a.asked, a.got, true
 	isLost := c.isApart && !c.waits && c.holders.Load() == 1
 	done, told := c.done, c.told
 	c.told = nil
@@ -250,7 +252,7 @@ func (p *core) takes(a *asking) outcome {
 	c := a.call
 	how := again
 	if err := c.got.Err; err != errAgain && (err == nil || !c.ended) {
-		a.got, how = c.got, settled
+		a.asked, a.got, how = c.asked, c.got, settled
 		a.holds()
 	}
 	a.enter()

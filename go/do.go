@@ -8,15 +8,16 @@ import (
 	"time"
 )
 
-// do is Do for a caller whose context never ends.
-func (p *core) do(a *asking, fn func() (any, error)) {
-	for p.asks(a); !a.leads; p.asks(a) {
+// hasJoined waits for the result of the call that was joined, where the context never ends. It returns false where it leads instead.
+func (p *core) hasJoined(a *asking) bool {
+	for !a.leads {
 		if p.joins(a, nil) == settled {
 			end(a.got.Err)
-			return
+			return true
 		}
+		p.asks(a)
 	}
-	p.lead(a, fn)
+	return false
 }
 
 // end goes on in one who has joined a function that panicked or ended its goroutine: so does this one.
@@ -63,7 +64,7 @@ func (p *core) lead(a *asking, fn func() (any, error)) {
 }
 
 // calls calls fn. It does not return where fn ends the goroutine. Before Go 1.21 a panic of nil is as if fn had returned nothing, as in x/sync.
-func calls(r *Result, fn func() (any, error)) {
+func calls(r *ending, fn func() (any, error)) {
 	returned := false
 	defer func() {
 		if !returned {
@@ -116,13 +117,13 @@ func (detached) Err() error                  { return nil }
 
 type loadFunc = func(context.Context, *asking) (any, error)
 
-// What is returned in place of a result: nobody changes it.
-var noResult Result
+// What is returned in place of an asking that has ended: nobody changes it.
+var nothing = asking{asked: asked{stamp: noStamp}}
 
 // doContext is Do for a caller that waits no longer than its context. If the context never ends, nobody has the asking when it returns.
-func (p *core) doContext(ctx context.Context, a *asking, fn loadFunc) (*Result, error) {
+func (p *core) doContext(ctx context.Context, a *asking, fn loadFunc) (*asking, error) {
 	if err := ctx.Err(); err != nil {
-		return &noResult, err
+		return &nothing, err
 	}
 	a.stop = ctx.Done()
 	p.asks(a)
@@ -130,7 +131,7 @@ func (p *core) doContext(ctx context.Context, a *asking, fn loadFunc) (*Result, 
 }
 
 // goOn goes on with an asking until there is a result, or the context ends.
-func (p *core) goOn(ctx context.Context, a *asking, fn loadFunc) (*Result, error) {
+func (p *core) goOn(ctx context.Context, a *asking, fn loadFunc) (*asking, error) {
 	for !a.leads {
 		how := left
 		if !a.isCrowded {
@@ -138,10 +139,10 @@ func (p *core) goOn(ctx context.Context, a *asking, fn loadFunc) (*Result, error
 		}
 		if how == settled {
 			end(a.got.Err)
-			return &a.got, a.got.Err
+			return a, a.got.Err
 		}
 		if err := ctx.Err(); err != nil || how == left {
-			return &noResult, err
+			return &nothing, err
 		}
 		p.asks(a)
 	}
@@ -149,11 +150,11 @@ func (p *core) goOn(ctx context.Context, a *asking, fn loadFunc) (*Result, error
 		return p.leadContext(ctx, a, fn)
 	}
 	p.lead(a, func() (any, error) { return fn(ctx, a) })
-	return &a.got, a.got.Err
+	return a, a.got.Err
 }
 
 // leadContext runs fn in a goroutine of its own, and waits for it no longer than the context.
-func (p *core) leadContext(ctx context.Context, a *asking, fn loadFunc) (*Result, error) {
+func (p *core) leadContext(ctx context.Context, a *asking, fn loadFunc) (*asking, error) {
 	own, cancel := context.WithCancel(detached{ctx})
 	p.apart(a, cancel)
 	spawn(func() {
@@ -161,11 +162,11 @@ func (p *core) leadContext(ctx context.Context, a *asking, fn loadFunc) (*Result
 		p.lead(a, func() (any, error) { return fn(own, a) })
 	})
 	if !await(a.over, ctx.Done()) && p.gives(a) {
-		return &noResult, ctx.Err()
+		return &nothing, ctx.Err()
 	}
 	await(a.over, nil)
 	end(a.got.Err)
-	return &a.got, a.got.Err
+	return a, a.got.Err
 }
 
 // apart has a call that is led run apart from its leader, who may leave; or for nobody, where there is no cancel.
@@ -205,7 +206,7 @@ func (p *core) parts(a *asking) bool {
 
 // doChan is Do for a caller that does not wait: it has asked when this returns. What tell is called with is the result. As in
 // x/sync, a panic of the function ends the program, and one who joins needs no goroutine.
-func (p *core) doChan(ctx context.Context, key string, fn loadFunc, tell func(*Result, error)) {
+func (p *core) doChan(ctx context.Context, key string, fn loadFunc, tell func(*asking, error)) {
 	a := &asking{key: key, stop: ctx.Done()}
 	p.asks(a)
 	goOn := func() { tell(p.goOn(ctx, a, fn)) }
@@ -222,7 +223,7 @@ func (p *core) doChan(ctx context.Context, key string, fn loadFunc, tell func(*R
 		} else if e, ok := a.got.Err.(*panicError); ok {
 			go panic(e)
 		} else if a.got.Err != errGoexit {
-			tell(&a.got, a.got.Err)
+			tell(a, a.got.Err)
 		}
 	})
 }

@@ -26,7 +26,10 @@ func NewGroup(options ...Option) (*Group, error) {
 // joined. As in x/sync, shared tells whether another caller joined the call.
 func (g *Group) Do(key string, fn func() (any, error)) (v any, err error, shared bool) {
 	a := asking{key: key}
-	g.made.core().do(&a, fn)
+	p := g.made.core()
+	if p.asks(&a); a.leads || !p.hasJoined(&a) {
+		p.lead(&a, fn)
+	}
 	return a.got.Val, a.got.Err, a.got.Shared
 }
 

@@ -160,8 +160,8 @@ func (t *nativeTable) open(size *sizes) (why error) {
 func (all *handles) close() {
 	for _, h := range all.all {
 		h.stack = all.all[0].stack
-		for ; h.frees > 0; h.frees-- {
-			cFree(h, &h.free[h.frees-1])
+		for h.frees > 0 {
+			h.release()
 		}
 		cClose(h)
 	}
@@ -188,19 +188,25 @@ func procPin() int
 //go:linkname procUnpin runtime.procUnpin
 func procUnpin()
 
+// pin pins the goroutine to its processor, and returns the handle of that, if it has one. Go 1.19 inlines this, and not take.
+func (t *nativeTable) pin() *handle {
+	if p := procPin(); p < len(t.hot) {
+		return (*handle)(atomic.LoadPointer(&t.hot[p]))
+	}
+	return nil
+}
+
 // take takes a handle, until its put is called.
 func (t *nativeTable) take() *handle {
-	if p := procPin(); p < len(t.hot) {
-		if h := (*handle)(atomic.LoadPointer(&t.hot[p])); h != nil {
-			return h
-		}
+	if h := t.pin(); h != nil {
+		return h
 	}
-	procUnpin()
 	return t.takeSlowly()
 }
 
-// takeSlowly takes a new handle for this processor, or the root.
+// takeSlowly goes on where the pinned goroutine's processor has no handle: it takes a new one for a processor, or the root.
 func (t *nativeTable) takeSlowly() *handle {
+	procUnpin()
 	t.mu.Lock()
 	h := &handle{stack: t.root.stack, put: procUnpin}
 	if isRaceDetected || cSplit(t.root, h) != codeDone {
@@ -229,38 +235,43 @@ func increment(at *uint64) {
 	atomic.StoreUint64(at, *at+1)
 }
 
-// make makes a call, or none where there is no memory. It tells whether the group may have to grow. Looking takes the lock of all
+// make makes idle calls, or none where there is no memory. It tells whether the group may have to grow. Looking takes the lock of all
 // handles, so one of newPerLook calls that are new to its handle looks: a group whose calls are used again never does.
 //
 // The library's calls lie next to each other in memory, and each use of a call writes to it. Two processors that write to one cache line
-// slow each other down. So this makes three calls, returns the one in the middle, and keeps its neighbours idle.
-func (h *handle) make(c *cCall) (isDue bool) {
-	var beside [2]cCall
-	for _, to := range []*cCall{&beside[0], c, &beside[1]} {
-		if cMake(h, to) == codeDone {
+// slow each other down. So this makes three calls, of which the one in the middle is used first.
+func (h *handle) make() (isDue bool) {
+	var made [3]cCall
+	for i := range made {
+		if cMake(h, &made[i]) == codeDone {
 			h.made++
 			isDue = isDue || h.made%newPerLook == 0
 		}
 	}
-	for i := range beside {
-		if !c.live {
-			*c, beside[i] = beside[i], cCall{}
-		}
-		h.idle(&beside[i])
+	for _, i := range [...]int{0, 2, 1} {
+		h.idle(&made[i])
 	}
 	return isDue
 }
 
 // idle gives a call back, if there is one.
 func (h *handle) idle(c *cCall) {
-	if h.frees < len(h.free) && c.live {
-		h.free[h.frees] = *c
-		h.frees++
-	} else if c.live {
-		cFree(h, c)
-		h.made--
+	if !c.live {
+		return
 	}
+	if h.frees == len(h.free) {
+		h.release()
+	}
+	h.free[h.frees] = *c
+	h.frees++
 	*c = cCall{}
+}
+
+// release frees the last idle call.
+func (h *handle) release() {
+	h.frees--
+	h.made--
+	cFree(h, &h.free[h.frees])
 }
 
 func (t *nativeTable) ask(a *asking) {
@@ -268,16 +279,20 @@ func (t *nativeTable) ask(a *asking) {
 		t.plain.ask(a)
 		return
 	}
+	a.isCrowded = false
 	for try := 1; ; try++ {
-		h := t.take()
+		h := t.pin()
+		isPinned := h != nil
+		if !isPinned {
+			h = t.takeSlowly()
+		}
 		seen, code, isDue := t.size.Load(), uint32(codeFull), false
+		if h.frees == 0 {
+			isDue = h.make()
+		}
 		if h.frees > 0 {
 			h.frees--
 			a.own = h.free[h.frees]
-		} else {
-			isDue = h.make(&a.own)
-		}
-		if a.own.live {
 			code = cAsk(h, a)
 		}
 		switch code {
@@ -288,24 +303,29 @@ func (t *nativeTable) ask(a *asking) {
 		default:
 			h.idle(&a.own)
 		}
-		h.put()
-		a.leads, a.isCrowded = code == codeLed, code == codeCrowded
-		switch {
-		case code == codeLed, code == codeJoined:
-			if !a.leads {
-				t.share(a)
-				a.call.holders.Add(1)
-			}
+		if isPinned {
+			procUnpin()
+		} else {
+			h.put()
+		}
+		if isDue && a.own.live {
 			// If only leaders looked, none would where each call that is due is a joiner's.
-			if isDue {
-				t.look()
-			}
+			t.look()
+		}
+		switch {
+		case code == codeLed:
+			a.leads = true
 			return
-		case a.isCrowded:
+		case code == codeJoined:
+			t.share(a)
+			a.call.holders.Add(1)
+			return
+		case code == codeCrowded:
+			a.isCrowded = true
 			return
 		case code == codeFull && !t.grow(seen):
 			// There is no memory. It loads alone, and nobody can join it.
-			a.leads, a.asked = true, asked{stamp: Stamp{}.words()}
+			a.leads, a.asked = true, asked{stamp: noStamp}
 			return
 		case try > mostYields:
 			// Another makes room.
@@ -394,35 +414,48 @@ func (t *nativeTable) drop(a *asking) {
 	s.mu.Unlock()
 }
 
-// settle ends the call that was led. The leader leaves it too, unless it has to tell somebody.
-func (t *nativeTable) settle(a *asking, keeps bool) (to audience) {
-	if t.plain != nil {
-		return t.plain.settle(a, keeps)
-	}
-	to.isTold = keeps
+// settle ends the call that was led. The leader leaves it too, unless it has to tell somebody: those who have joined; or itself,
+// where it keeps the call.
+func (t *nativeTable) settle(a *asking, keeps bool) (isTold bool) {
 	if !a.own.live {
-		return to
+		if t.plain != nil {
+			return t.plain.settle(a, keeps)
+		}
+		return keeps
 	}
-	h := t.take()
+	h := t.pin()
+	isPinned := h != nil
+	if !isPinned {
+		h = t.takeSlowly()
+	}
 	code := cSettle(h, a)
 	increment(&h.ends)
 	if code == codeTold {
-		to = audience{h.told.joined || keeps, h.told.joined, int(h.told.holders) - 1, h.told.forgotten}
-		h.put()
-		if to.isTold {
-			t.share(a)
-		} else {
-			// A Forget has closed it, and nobody has joined it.
-			t.leave(a, true)
-		}
-		return to
+		a.got.Joiners, a.got.Shared, a.isClosed = int(h.told.holders)-1, h.told.joined, h.told.forgotten
+	} else if n := h.frees; n < len(h.free) {
+		// idle, in line.
+		h.free[n], h.frees, a.own = a.own, n+1, cCall{}
+	} else {
+		h.idle(&a.own)
 	}
-	h.idle(&a.own)
-	h.put()
+	if isPinned {
+		procUnpin()
+	} else {
+		h.put()
+	}
+	if code == codeTold {
+		if keeps || a.got.Shared {
+			t.share(a)
+			return true
+		}
+		// A Forget has closed it, and nobody has joined it.
+		t.leave(a, true)
+		return false
+	}
 	if a.call != nil {
 		t.drop(a)
 	}
-	return to
+	return keeps
 }
 
 // leave lets go of the call. Whether it has ended, and nobody holds it any more.
@@ -449,12 +482,20 @@ func (t *nativeTable) forget(key string) (id callID, closed bool) {
 		return t.plain.forget(key)
 	}
 	for {
-		h := t.take()
+		h := t.pin()
+		isPinned := h != nil
+		if !isPinned {
+			h = t.takeSlowly()
+		}
 		code := cForget(h, key)
 		if id = h.id; code != codeBusy {
 			increment(&h.forgets)
 		}
-		h.put()
+		if isPinned {
+			procUnpin()
+		} else {
+			h.put()
+		}
 		if code != codeBusy {
 			return id, code == codeDone
 		}
@@ -513,8 +554,8 @@ func (t *nativeTable) isStill(stamp Stamp, by *tally) (is bool) {
 			return is
 		}
 	}
-	procUnpin()
 	if t.plain != nil {
+		procUnpin()
 		return t.plain.isStill(stamp, by)
 	}
 	h := t.takeSlowly()

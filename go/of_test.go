@@ -347,7 +347,10 @@ func TestJoinersOfManyCalls(t *testing.T) {
 					return it, nil
 				}
 				a := asking{key: "key"}
-				g.core().do(&a, load)
+				p := g.core()
+				if p.asks(&a); a.leads || !p.hasJoined(&a) {
+					p.lead(&a, load)
+				}
 				r := &a.got
 				it := r.Val.(*run)
 				it.got.Add(1)

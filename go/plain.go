@@ -103,30 +103,30 @@ func (t *plainTable) ask(a *asking) {
 	s.calls[a.key] = c
 	s.loads++
 	s.open++
-	c.key, c.slot, c.id = a.key, slot, callID{uint32(slot >> t.bits), 0, s.loads}
+	c.key, c.slot, c.asked = a.key, slot, asked{callID{uint32(slot >> t.bits), 0, s.loads}, t.stampOf(slot)}
 	c.holders.Store(1)
-	a.call, a.id, a.stamp = c, c.id, t.stampOf(slot)
+	a.call, a.asked = c, c.asked
 }
 
 // share is for the library's table: here a call is shared at once.
 func (t *plainTable) share(*asking) {}
 
 // settle ends the call that was led. One that nobody has joined is used again, unless the leader wants to keep it.
-func (t *plainTable) settle(a *asking, keeps bool) (to audience) {
+func (t *plainTable) settle(a *asking, keeps bool) (isTold bool) {
 	c := a.call
 	s := &t.shards[c.slot>>t.bits]
 	acquire(&s.mu)
 	defer s.mu.Unlock()
-	to = audience{c.shared || keeps, c.shared, int(c.holders.Load()) - 1, c.closed}
+	a.got.Joiners, a.got.Shared, a.isClosed = int(c.holders.Load())-1, c.shared, c.closed
 	if !c.closed {
 		delete(s.calls, c.key)
 	}
 	s.open--
-	if !to.isTold {
+	if isTold = c.shared || keeps; !isTold {
 		c.key, c.closed = "", false
 		s.spare = c
 	}
-	return to
+	return isTold
 }
 
 // leave lets go of the call. Whether it has ended, and nobody holds it any more, which is asked for recordings alone.

@@ -387,9 +387,8 @@ func (w *world) act(depth, least int) {
 			v.(*run).by = me
 			w.keeps(a.stamp.packed(), v.(*run))
 			return v, err
-		}, func(r *Result, err error) {
-			got := *r
-			got.Err = err
+		}, func(a *asking, err error) {
+			got, _ := resultOf[any](a, err)
 			ch <- got
 		})
 		for {
